@@ -1,0 +1,13 @@
+pub mod Lists
+pub mod Steps
+pub mod Finding
+pub mod FindingTerms
+pub mod Depths
+pub mod FindingRules
+pub mod RuleLevel
+pub mod Again
+pub mod AgainTerms
+pub mod AgainRules
+pub mod Printed
+pub mod Reread
+pub mod Tokens

@@ -1,0 +1,4 @@
+-- What the contracts of the tree cite.
+pub mod Forms
+pub mod Names
+pub mod Programs

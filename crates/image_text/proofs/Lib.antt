@@ -1,0 +1,4 @@
+pub mod Parting
+pub mod Fields
+pub mod Readable
+pub mod Telling

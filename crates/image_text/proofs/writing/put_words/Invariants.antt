@@ -1,0 +1,8 @@
+use Rattle.std.proofs.Common.{◌≡◌, ◌++◌, map, drop}
+use Rattle.text_core.specs.Hexadecimal.{hex8}
+use Rattle.image_text.specs.Lines.{lines_text}
+use Rattle.image_text.proofs.writing.put_words.Given as goal
+
+abbrev pub invariant-loop-word : goal.invariant-loop-word
+invariant-loop-word l =
+    l.out.items ++ lines_text (map hex8 (drop l.word-index l.words)) ≡ l.initial.out.items ++ lines_text (map hex8 l.words)

@@ -1,0 +1,35 @@
+//! Words of the B format: the branches.
+
+ghost use Rattle.std.specs.Prelude.{◌<◌, ◌^◌, ℕ, ℤ};
+ghost use Rattle.rv_encode.specs.Format.{bits, IsB};
+
+use crate::bits::{bits, place, register, sign_extend};
+use rv_isa::{ImmB, Reg};
+
+/// The word with these fields, its opcode in bits 6 to 0 and funct3 in bits 14 to 12.
+pub fn encode(opcode: u32, funct3: u32, rs1: Reg, rs2: Reg, imm: ImmB) -> u32
+    requires opcode_fits { opcode < 2 ^ 7 }
+    requires funct3_fits { funct3 < 2 ^ 3 }
+    ensures { IsB result opcode funct3 rs1 rs2 imm }
+{
+    let imm = imm.value().cast_unsigned();
+    let word = place(opcode, 7, bits(imm, 11, 11));
+    let word = place(word, 8, bits(imm, 4, 1));
+    let word = place(word, 12, funct3);
+    let word = place(word, 15, rs1.number());
+    let word = place(word, 20, rs2.number());
+    let word = place(word, 25, bits(imm, 10, 5));
+    place(word, 31, bits(imm, 12, 12))
+}
+
+/// The operands that stand in a word, whatever its opcode and funct3.
+pub fn operands(word: u32) -> (Reg, Reg, ImmB)
+    ensures { IsB word (bits word 6 0) (bits word 14 12) result.0 result.1 result.2 }
+{
+    let field = place(0, 1, bits(word, 11, 8));
+    let field = place(field, 5, bits(word, 30, 25));
+    let field = place(field, 11, bits(word, 7, 7));
+    let field = place(field, 12, bits(word, 31, 31));
+    let imm = ImmB::new(sign_extend(field, 13)).unwrap();
+    (register(word, 15), register(word, 20), imm)
+}

@@ -1,0 +1,11 @@
+-- What the contracts of the program cite.
+pub mod Mode
+pub mod Refusal
+pub mod Job
+pub mod PlainJob
+pub mod Verdict
+pub mod ImageText
+pub mod Replies
+pub mod Outcome
+pub mod TopCall
+pub mod Status

@@ -1,0 +1,174 @@
+//! Jobs with their answers.
+
+use super::{SEVEN, SEVEN_REPORT, compiled, run};
+use crate::status::Status;
+use std::alloc::{AllocError, Global};
+use std::test::Fail;
+
+/// A job with this source.
+fn job(alloc: Global, source: &str) -> Result<Vec<u8>, AllocError> {
+    Ok(format!(in alloc; "%source\n{source}\n")?.into_bytes())
+}
+
+#[test]
+fn the_first_session(rt: HostRuntime) -> Result<(), Fail> {
+    let alloc = rt.alloc();
+    let (status, held) = compiled(alloc, SEVEN.to_vec(alloc)?)?;
+    assert_eq!(rt; status, Status::Done);
+    assert_eq!(rt; held.as_slice(), SEVEN_REPORT);
+    Ok(())
+}
+
+#[test]
+fn modes_that_are_not_built(rt: HostRuntime) -> Result<(), Fail> {
+    let alloc = rt.alloc();
+    for mode in ["check", "run", "model", "exec", "asm", "list", "make"] {
+        let (status, held) = run(alloc, mode, SEVEN.to_vec(alloc)?, 16, 0, 0)?;
+        assert_eq!(rt; status, Status::Refused(901), "{mode}");
+        assert_eq!(rt; held.as_slice(), b"refused 901\n".as_slice(), "{mode}");
+    }
+    Ok(())
+}
+
+#[test]
+fn jobs_of_another_form(rt: HostRuntime) -> Result<(), Fail> {
+    let alloc = rt.alloc();
+    for text in [
+        "",
+        "%source",
+        "%source\n",
+        " %source\nmachine m\nrule skip\n",
+        "machine m\nrule skip\n",
+        "\n%source\nmachine m\nrule skip\n",
+        "%sources\nmachine m\nrule skip\n",
+        "%set\n%source\nmachine m\nrule skip\n",
+        "%source\nmachine m\nrule skip\n%run\n",
+        "%source\n%source\nmachine m\nrule skip\n",
+        "%source\nmachine m // a comment\n% no comment\nrule skip\n",
+    ] {
+        let (status, held) = compiled(alloc, text.as_bytes().to_vec(alloc)?)?;
+        assert_eq!(rt; status, Status::Refused(901), "{text}");
+        assert_eq!(rt; held.as_slice(), b"refused 901\n".as_slice(), "{text}");
+    }
+    Ok(())
+}
+
+#[test]
+fn programs_that_are_not_plain(rt: HostRuntime) -> Result<(), Fail> {
+    let alloc = rt.alloc();
+    for source in [
+        "machine m\ndomain D = 0 to 9\ncontrolled x : D\nrule par x := 7 end",
+        "machine m\ndomain D = 0 to 9\ncontrolled x : D\nrule x := x",
+        "machine m\ndomain D = 0 to 9\ncontrolled x : D\nrule x := (1 + 1)",
+        "machine m\ndomain D = 0 to 9\ncontrolled x : D\nrule y := 7",
+        "machine m\ndomain D = 0 to 9\ncontrolled x : D\nrule D := 7",
+        "machine m\ndomain D = 0 to 9\ncontrolled x : D\nrule x(1) := 7",
+        "machine m\ndomain D = 0 to 9\ncontrolled x(D) : D\nrule skip",
+        "machine m\ndomain D = 0 to 9\ninput x : D\nrule skip",
+        "machine m\ndomain D = 0 to 9\noutput x : D\nrule skip",
+        "machine m\ndomain D = 0 to 9\nstatic x : D = [ 7 ]\nrule skip",
+        "machine m\ndomain D = { a, b }\ncontrolled x : D\nrule skip",
+        "machine m\ndomain D = 0 to 9\ncontrolled x : D\nlegal (x = 7)\nrule x := 7",
+        "machine m\ndomain D = 9 to 0\nrule skip",
+        "machine m\ndomain D = 0 to 65536\nrule skip",
+        "machine m\ndomain D = -1048577 to 0\nrule skip",
+        "machine m\ndomain D = 0 to 1048577\nrule skip",
+        "machine m\ndomain D = 0 to 9\ndomain D = 0 to 9\nrule skip",
+        "machine m\ndomain D = 0 to 9\ncontrolled D : D\nrule skip",
+        "machine m\ncontrolled x : D\ndomain D = 0 to 9\nrule skip",
+        "machine m\ndomain D = 0 to 9\ncontrolled x : D\ncontrolled y : x\nrule skip",
+        "machine m\ndomain D = 0 to 9\ncontrolled x : D\nrule x := 07",
+        "machine m\ndomain D = 0 to 9\ncontrolled x : D\nrule x := 2147483648",
+        "machine m\ndomain D = 0 to 9\ncontrolled x : D\nrule x := -1",
+        "machine m\ndomain D = 0 to 9\ncontrolled x : D\nrule x = 7",
+        "machine m\ndomain D = 0 to 9\ncontrolled x : D\nrule x := 7 ?",
+        "machine m\ndomain D = 0 to 9\ncontrolled x : D\nrule x := 7 skip",
+        "machine m",
+    ] {
+        let (status, held) = compiled(alloc, job(alloc, source)?)?;
+        assert_eq!(rt; status, Status::Refused(901), "{source}");
+        assert_eq!(rt; held.as_slice(), b"refused 901\n".as_slice(), "{source}");
+    }
+    Ok(())
+}
+
+#[test]
+fn updates_out_of_range(rt: HostRuntime) -> Result<(), Fail> {
+    let alloc = rt.alloc();
+    for (source, line) in [
+        (
+            "machine m\ndomain D = 0 to 9\ncontrolled x : D\nrule x := 12",
+            "refused 207 5 16\n",
+        ),
+        (
+            "machine m domain D = 0 to 9 controlled x : D rule x := 10",
+            "refused 207 2 16\n",
+        ),
+        (
+            "machine m\ndomain D = 8 to 9\ncontrolled x : D\nrule x\n:=\n// the value\n\n7",
+            "refused 207 9 16\n",
+        ),
+        (
+            "machine m\ndomain D = -5 to -1\ncontrolled x : D\nrule x := 0",
+            "refused 207 5 18\n",
+        ),
+        (
+            "machine m\ndomain D = 0 to 9\ncontrolled x : D\nrule x := 2147483647",
+            "refused 207 5 16\n",
+        ),
+    ] {
+        let (status, held) = compiled(alloc, job(alloc, source)?)?;
+        assert_eq!(rt; status, Status::Refused(207), "{source}");
+        assert_eq!(rt; held.as_slice(), line.as_bytes(), "{source}");
+    }
+    Ok(())
+}
+
+#[test]
+fn plain_programs(rt: HostRuntime) -> Result<(), Fail> {
+    let alloc = rt.alloc();
+    for (source, lines) in [
+        (
+            "machine m rule skip",
+            "ram 16\nrom 64\nanchor 130\nround 64\nregisters 1\nwords 1\n0000006f\nend\n",
+        ),
+        (
+            "machine m\r\ndomain D = 0 to 9\r\ncontrolled x : D\r\nrule skip\r",
+            "ram 28\nrom 88\nanchor 178\nround 88\nregisters 1\nplace x 10000000 4 10 0\nwords 1\n0000006f\nend\n",
+        ),
+        (
+            "machine m\ndomain Low = -1048576 to -983041\ndomain One = 5 to 5\ndomain High = 1048576 to 1048576\ncontrolled a : Low\ncontrolled b : One\ncontrolled c : High\nrule c := 1048576",
+            "ram 52\nrom 186\nanchor 374\nround 186\nregisters 2\nplace a 10000000 4 65536 -1048576\nplace b 10000004 4 1 5\nplace c 10000008 4 1 1048576\nwords 5\n100002b7\n00000337\n00030313\n0062a423\nff1ff06f\nend\n",
+        ),
+        (
+            "machine m\ndomain Wide = 0 to 65535\ncontrolled w : Wide\nrule w := 65535",
+            "ram 28\nrom 138\nanchor 278\nround 138\nregisters 2\nplace w 10000000 4 65536 0\nwords 5\n100002b7\n00010337\nfff30313\n0062a023\nff1ff06f\nend\n",
+        ),
+    ] {
+        let (status, held) = compiled(alloc, job(alloc, source)?)?;
+        let want = format!(in alloc;
+            "program m\nrevision 1\nshape unrolled\nlayout words\n{lines}"
+        )?;
+        assert_eq!(rt; status, Status::Done, "{source}");
+        assert_eq!(rt; held.as_slice(), want.as_bytes(), "{source}");
+    }
+    Ok(())
+}
+
+#[test]
+fn as_many_functions_as_there_may_be(rt: HostRuntime) -> Result<(), Fail> {
+    let alloc = rt.alloc();
+    for (count, want) in [(64, Status::Done), (65, Status::Refused(901))] {
+        let mut source = format!(in alloc; "machine m\ndomain D = 0 to 300")?;
+        for number in 0..count {
+            source.push_str(&format!(in alloc; "\ncontrolled f{number} : D")?)?;
+        }
+        source.push_str("\nrule f63 := 300")?;
+        let (status, held) = compiled(alloc, job(alloc, &source)?)?;
+        assert_eq!(rt; status, want, "{count}");
+        let ends =
+            b"place f63 100000fc 4 301 0\nwords 5\n100002b7\n00000337\n12c30313\n0e62ae23\nff1ff06f\nend\n";
+        assert_eq!(rt; held.ends_with(ends), want == Status::Done, "{count}");
+    }
+    Ok(())
+}
