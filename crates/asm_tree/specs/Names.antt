@@ -1,5 +1,6 @@
 -- Keywords and names.
-use Rattle.std.specs.Prelude.{◌≡◌, ◌≢◌, ℕ, ◌≤◌, Bool, true, false, ◌||◌, ◌&&◌, ◌==◌, List, [], ◌∷◌, length, codes}
+use Rattle.std.specs.Prelude.{◌≡◌, ◌≢◌, ℕ, ◌≤◌, Bool, true, false, ◌||◌, ◌&&◌, ◌==◌, List, [], ◌∷◌, length, codes, bytes_eq, nat_le, not}
+use Rattle.std.specs.List.{list_any}
 use Rattle.std.specs.Char.{is_ascii_alphabetic, is_ascii_digit}
 use Rattle.asm_tree.specs.declared.key.Key.{Key}
 use Rattle.asm_tree.specs.declared.key.Key.TheVariants as keys
@@ -47,6 +48,21 @@ key_bytes keys.Max = codes "max"
 key_bytes keys.Cond = codes "cond"
 key_bytes keys.And = codes "and"
 key_bytes keys.Or = codes "or"
+
+-- each keyword once
+abbrev pub all_keys : List Key
+all_keys =
+    keys.Machine ∷ keys.Domain ∷ keys.To ∷ keys.Controlled ∷ keys.Input ∷ keys.Output ∷ keys.Static ∷ keys.Legal ∷ keys.Rule
+    ∷ keys.Skip ∷ keys.If ∷ keys.Then ∷ keys.Else ∷ keys.End ∷ keys.Par ∷ keys.Forall ∷ keys.In ∷ keys.With
+    ∷ keys.Do ∷ keys.Choose ∷ keys.Let ∷ keys.Not ∷ keys.Min ∷ keys.Max ∷ keys.Cond ∷ keys.And ∷ keys.Or ∷ []
+
+-- whether a text is the spelling of a keyword
+unfoldable pub is_key : List ℕ → Bool
+is_key w = list_any (λ k. bytes_eq (key_bytes k) w) all_keys
+
+-- whether a text is a name, as `IsName` says it
+abbrev pub is_name : List ℕ → Bool
+is_name w = begins_letter w && nat_le (length w) 32 && all_word w && not (is_key w)
 
 -- a letter, then letters, digits and `_`, at most 32 bytes in all, and no keyword
 pub record IsName (w : List ℕ) : Type 0 where

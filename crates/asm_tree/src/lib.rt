@@ -11,7 +11,7 @@ mod term;
 
 pub use decl::{Const, Consts, Decl, Decls, Kind, Names};
 pub use key::{Key, key_of, key_text};
-pub use name::{Name, is_word};
+pub use name::{Name, is_name, is_word};
 pub use program::{MAX_DEPTH, Program};
 pub use rule::{Rule, Rules};
 pub use term::{Op, Term, Terms};

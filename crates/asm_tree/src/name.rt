@@ -1,7 +1,7 @@
 //! Names of domains, enumerators, functions, binders and machines.
 
-ghost use Rattle.std.specs.Prelude.{◌≡◌, IfOk, MatchOption};
-ghost use Rattle.asm_tree.specs.Names.{IsName, is_word, all_word};
+ghost use Rattle.std.specs.Prelude.{◌≡◌, ◌↔◌, IfOk, IsTrue, MatchOption};
+ghost use Rattle.asm_tree.specs.Names.{IsName, all_word, begins_letter, is_key, is_name, is_word};
 
 use crate::key::key_of;
 use std::alloc::{AllocError, Global};
@@ -47,20 +47,38 @@ fn are_word(bytes: &[u8]) -> bool
     true
 }
 
+// Whether the first byte is a letter.
+fn begins_letter(bytes: &[u8]) -> bool
+    ensures { result ≡ begins_letter bytes.now }
+{
+    match bytes {
+        [first, ..] => first.is_ascii_alphabetic(),
+        [] => false,
+    }
+}
+
+// Whether a text is the spelling of a keyword.
+fn is_key(text: &[u8]) -> bool
+    ensures { result ≡ is_key text.now }
+{
+    key_of(text).is_some()
+}
+
+/// Whether a text is a name: one that `Name::of` takes. Takes no memory.
+pub fn is_name(text: &[u8]) -> bool
+    ensures value { result ≡ is_name text.now }
+    ensures name { IsTrue result ↔ IsName text.now }
+{
+    begins_letter(text) && text.len() <= MAX_BYTES && are_word(text) && !is_key(text)
+}
+
 impl Name {
     /// The name of this text, or `None` exactly where the text is no name. `AllocError` where there is
     /// no memory for its bytes.
     pub fn of(alloc: Global, text: &[u8]) -> Result<Option<Name>, AllocError>
         ensures { IfOk result (λ found. MatchOption found (IsName text.now → ⊥) (λ name. (name ≡ text.now) × IsName text.now)) }
     {
-        let Some(first) = text.first() else {
-            return Ok(None);
-        };
-        if !first.is_ascii_alphabetic()
-            || text.len() > MAX_BYTES
-            || !are_word(text)
-            || key_of(text).is_some()
-        {
+        if !is_name(text) {
             return Ok(None);
         }
         let text = Vec::from_slice(alloc, text)?;

@@ -1,6 +1,7 @@
 //! What no clause says: that the calls succeed where memory is there, at trees near each limit.
 use crate::{
     Const, Consts, Decl, Decls, Kind, MAX_DEPTH, Name, Names, Program, Rule, Rules, Term, Terms,
+    is_name,
 };
 use sqlite_items::{Boxed, Items};
 use std::alloc::Global;
@@ -86,6 +87,7 @@ fn names_are_told_from_other_texts(rt: HostRuntime) -> Result<(), Fail> {
         "If",
         "a23456789_123456789_123456789_12",
     ] {
+        assert!(rt; is_name(text.as_bytes()), "{text}");
         let found = Name::of(alloc, text.as_bytes())?;
         assert!(rt; found.is_some(), "{text}");
         if let Some(found) = found {
@@ -105,6 +107,7 @@ fn names_are_told_from_other_texts(rt: HostRuntime) -> Result<(), Fail> {
         "or",
         "a23456789_123456789_123456789_123",
     ] {
+        assert!(rt; !is_name(text.as_bytes()), "{text}");
         assert!(rt; Name::of(alloc, text.as_bytes())?.is_none(), "{text}");
     }
     Ok(())

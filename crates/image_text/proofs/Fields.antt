@@ -9,7 +9,7 @@ use Rattle.text_core.specs.Numbers.{all_digits}
 use Rattle.text_core.specs.Hexadecimal.{glyph, hex8}
 use Rattle.text_core.proofs.Decimal.{own}
 use Rattle.asm_tree.specs.Names.{IsName, is_word, all_word}
-use Rattle.image_text.specs.Lines.{◌␣◌}
+use Rattle.text_core.specs.WrittenLines.{◌␣◌}
 use Rattle.image_text.proofs.Parting.{above}
 
 -- a field

@@ -1,7 +1,7 @@
 -- A text parts in one way at a separator that is below all bytes before it, and so does a text of lines.
 use Rattle.std.proofs.Common.{◌≡◌, ℕ, Bool, true, ◌&&◌, ltb, List, [], ◌∷◌, ◌++◌, refl, sym, ◌∙◌, append_assoc, arith}
 use Rattle.std.proofs.lemmas.Bool.{and_parts, ltb-true}
-use Rattle.image_text.specs.Lines.{lines_text}
+use Rattle.text_core.specs.WrittenLines.{lines_text}
 
 -- each byte is greater than the separator
 abbrev pub above : ℕ → List ℕ → Bool

@@ -15,7 +15,7 @@ use Rattle.plain_program.specs.declared.plain.Function.{Function}
 use Rattle.round_spec.specs.Round.{Compiled}
 use Rattle.round_spec.specs.declared.built.Numbers.{Numbers}
 use Rattle.round_spec.specs.declared.map.Entry.{Entry}
-use Rattle.image_text.specs.Lines.{◌␣◌}
+use Rattle.text_core.specs.WrittenLines.{◌␣◌}
 use Rattle.image_text.specs.Report.{AreNeedsReadable, IsPlaceReadable, IsReportable, ReportDetermines, address_of, head_lines, making_lines, needs_lines, place_line, place_lines, report_lines, report_text, word_lines}
 use Rattle.image_text.proofs.Fields.{IsField, IsLine, one_field, one_more_field, decimal_field, signed_field, hex8_field, name_field}
 use Rattle.image_text.proofs.Parting.{AreLines, AreLines-append, apart, heads, same_lines}

@@ -10,7 +10,7 @@ use Rattle.plain_program.specs.declared.plain.Function.{Function}
 use Rattle.round_spec.specs.Round.{Compiled}
 use Rattle.round_spec.specs.declared.built.Numbers.{Numbers}
 use Rattle.round_spec.specs.declared.map.Entry.{Entry}
-use Rattle.image_text.specs.Lines.{◌␣◌, lines_text}
+use Rattle.text_core.specs.WrittenLines.{◌␣◌, lines_text}
 
 -- the address of the first byte that holds a location
 abbrev pub address_of : Entry → ℕ

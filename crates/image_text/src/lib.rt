@@ -1,8 +1,13 @@
-//! The report of an image: a text from which the image, its map and its bounds can be read back.
+//! The report of an image: a text from which the image, its map and its bounds can be read back. And images read from
+//! text and written as text, a word a line.
 #![tactic(auto)]
 
 mod law;
+mod reading;
+#[cfg(test)]
+mod tests;
 mod writing;
 
 pub use law::report_determines_image;
-pub use writing::report;
+pub use reading::{ImageEnd, read_image};
+pub use writing::{put_words, report};

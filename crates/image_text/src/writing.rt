@@ -4,7 +4,7 @@ ghost use Rattle.std.specs.Prelude.{◌≡◌, ℕ, ◌+◌, ◌<◌, ◌^◌, �
 ghost use Rattle.std.specs.Fmt.{decimal};
 ghost use Rattle.text_core.specs.Hexadecimal.{hex8};
 ghost use Rattle.round_spec.specs.Stabilizes.{Stabilizes};
-ghost use Rattle.image_text.specs.Lines.{◌␣◌, ended, lines_text};
+ghost use Rattle.text_core.specs.WrittenLines.{◌␣◌, ended, lines_text};
 ghost use Rattle.image_text.specs.Report.{IsReportable, address_of, making_lines, needs_lines, place_line, place_lines, report_text};
 
 use asm_tree::Name;
@@ -84,8 +84,8 @@ fn put_places(out: &mut Vec<u8>, functions: &[Function], map: &[Entry]) -> Resul
     Ok(())
 }
 
-/// Appends the lines of the words.
-fn put_words(out: &mut Vec<u8>, words: &[u32]) -> Result<(), AllocError>
+/// Appends the words, each as eight hexadecimal digits on a line of its own. The only error is that no memory is left.
+pub fn put_words(out: &mut Vec<u8>, words: &[u32]) -> Result<(), AllocError>
     ensures { OnOk result (out.new.items ≡ out.old.items ++ lines_text (map hex8 words.now)) }
 {
     for word in words {

@@ -11,7 +11,7 @@ use rv_isa::Instr;
 
 /// The word of the row that an instruction is an instance of.
 macro_rules! word_of {
-    (($instr:expr) $($name:ident $mnemonic:ident { $($operand:ident),* } $format:ident($($field:literal),*);)*) => {
+    (($instr:expr) $($name:ident $mnemonic:ident { $($operand:ident),* } $format:ident($($field:literal),*) $form:ident;)*) => {
         match $instr {
             $(Instr::$name { $($operand),* } => $format::encode($($field,)* $($operand),*),)*
         }
@@ -20,7 +20,7 @@ macro_rules! word_of {
 
 /// The instruction of the row whose fixed fields a word has, with the operands that stand in the word.
 macro_rules! row_of {
-    (($word:expr) $($name:ident $mnemonic:ident { $($operand:ident),* } $format:ident($($field:literal),*);)*) => {
+    (($word:expr) $($name:ident $mnemonic:ident { $($operand:ident),* } $format:ident($($field:literal),*) $form:ident;)*) => {
         match ($word, bits($word, 6, 0), bits($word, 14, 12), bits($word, 31, 25)) {
             $(fixed_fields!($format $($field)*) => {
                 let ($($operand),*) = $format::operands($word);

@@ -21,7 +21,7 @@ use trap_model::{Loads, MemMap, Stores, Width};
 
 /// What an instruction has the tick do, by the rows of the table of instructions.
 macro_rules! effect_of {
-    (($hart:expr, $instr:expr) $($name:ident $mnemonic:ident { $($operand:ident),* } $format:ident($($field:literal),*);)*) => {
+    (($hart:expr, $instr:expr) $($name:ident $mnemonic:ident { $($operand:ident),* } $format:ident($($field:literal),*) $form:ident;)*) => {
         match $instr {
             $(Instr::$name { $($operand),* } => effect::$mnemonic($hart, $($operand),*),)*
         }

@@ -4,8 +4,10 @@ use Rattle.plain_program.specs.Plain.{IsInRange}
 use Rattle.stab_cli.specs.ImageText.{IsImageText}
 use Rattle.stab_cli.specs.Outcome.{Answers}
 use Rattle.stab_cli.specs.PlainJob.{IsPlainJob}
-use Rattle.stab_cli.specs.Replies.{IsText}
-use Rattle.stab_cli.specs.Verdict.{Accept, IsVerdict, Refuse, Verdict, not_built, out_of_range}
+use Rattle.stab_cli.specs.ByMode.{IsText, IsVerdict}
+use Rattle.stab_cli.specs.CompileVerdict.{out_of_range}
+use Rattle.stab_cli.specs.Refusal.{not_built}
+use Rattle.stab_cli.specs.Verdict.{Accept, Refuse, Verdict}
 use Rattle.stab_cli.specs.declared.mode.Mode.TheVariants.{Compile}
 use Rattle.stab_cli.specs.declared.outcome.Outcome.TheVariants.{Accepted, Refused}
 use Rattle.stab_cli.specs.declared.plain_job.PlainJob.{PlainJob}

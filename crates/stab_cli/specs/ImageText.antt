@@ -5,7 +5,7 @@ use Rattle.round_spec.specs.Round.{Compiled}
 use Rattle.round_spec.specs.Stabilizes.{GoesOn, Stabilizes}
 use Rattle.image_text.specs.Report.{IsReportable, report_text}
 use Rattle.stab_cli.specs.PlainJob.{IsPlainJob}
-use Rattle.stab_cli.specs.declared.compile.TheConstants.{RAM_BYTES, ROM_BYTES}
+use Rattle.stab_cli.specs.declared.machine_sizes.TheConstants.{RAM_BYTES, ROM_BYTES}
 use Rattle.stab_cli.specs.declared.plain_job.PlainJob.{PlainJob}
 
 -- The text reports this image, and no text of another image is the same: words, map and bounds are read off it.

@@ -1,13 +1,23 @@
--- The line that a refusal prints.
+-- Refusals, and the line that one prints.
 use Rattle.std.specs.Prelude.{ℕ, List, [], ◌∷◌, ◌++◌, codes}
 use Rattle.std.specs.Fmt.{decimal}
 use Rattle.stab_cli.specs.declared.refusal.Detail.{Detail}
-use Rattle.stab_cli.specs.declared.refusal.Detail.TheVariants.{Nothing, Place}
+use Rattle.stab_cli.specs.declared.refusal.Detail.TheVariants.{Nothing, Line, Place}
 use Rattle.stab_cli.specs.declared.refusal.Refusal.{Refusal}
+use Rattle.stab_cli.specs.declared.refusal.TheConstants.{NOT_BUILT}
 
--- the numbers behind the code: nothing, or a line of the job and the number of a token of its source
+-- a refusal for a line of the job
+abbrev pub at_line : ℕ → ℕ → Refusal
+at_line code line = record { code = code; detail = Line line }
+
+-- the refusal of what isn't built yet
+abbrev pub not_built : Refusal
+not_built = record { code = NOT_BUILT; detail = Nothing }
+
+-- the numbers behind the code: nothing, a line of the job, or that and the number of a token of the job's source
 abbrev pub detail_text : Detail → List ℕ
 detail_text Nothing = []
+detail_text (Line line) = codes " " ++ decimal line
 detail_text (Place line token) = codes " " ++ decimal line ++ codes " " ++ decimal token
 
 -- the whole line

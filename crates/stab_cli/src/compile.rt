@@ -4,33 +4,18 @@ ghost use Rattle.std.specs.Prelude.{◌≡◌, ◌<◌, ◌^◌, length, IfOk};
 ghost use Rattle.plain_program.specs.Plain.{IsInRange};
 ghost use Rattle.stab_cli.specs.ImageText.{IsReportOfStabilizing};
 ghost use Rattle.stab_cli.specs.Outcome.{Answers};
-ghost use Rattle.stab_cli.specs.Verdict.{not_built, out_of_range};
+ghost use Rattle.stab_cli.specs.CompileVerdict.{out_of_range};
 ghost use Rattle.stab_cli.specs.declared.mode.Mode.TheVariants.{Compile};
 
+use crate::machine_sizes::{RAM_BYTES, ROM_BYTES};
 use crate::outcome::Outcome;
 use crate::plain_job::PlainJob;
-use crate::refusal::{Detail, NOT_BUILT, OUT_OF_RANGE, Refusal};
+use crate::refusal::{Detail, OUT_OF_RANGE, Refusal, not_built};
 use image_text::{report, report_determines_image};
 use plain_program::Plain;
 use round_spec::Built;
 use stab_io::Bytes;
 use std::alloc::{AllocError, Global};
-
-/// The bytes of ROM.
-pub const ROM_BYTES: u32 = 262_144;
-
-/// The bytes of RAM.
-pub const RAM_BYTES: u32 = 262_144;
-
-/// The refusal of what isn't built yet.
-pub fn not_built() -> Refusal
-    ensures { result ≡ not_built }
-{
-    Refusal {
-        code: NOT_BUILT,
-        detail: Detail::Nothing,
-    }
-}
 
 /// The refusal of an update out of range.
 fn out_of_range(job: &PlainJob) -> Refusal

@@ -1,9 +1,14 @@
 //! Reads a job from standard input, and writes what its mode says of it to standard output.
 #![tactic(auto)]
 
+mod asm;
 mod compile;
 mod decision;
+mod exec;
+mod image_words;
 mod job;
+mod list;
+mod machine_sizes;
 mod mode;
 mod outcome;
 mod plain_job;

@@ -7,6 +7,8 @@ use crate::top_call::stab;
 use stab_io::{MemSink, MemSource};
 use std::alloc::{AllocError, Global};
 
+mod assembly_jobs;
+mod hart_jobs;
 mod images;
 mod jobs;
 mod streams;
@@ -59,6 +61,11 @@ fn run(
     let mut sink = MemSink::new(alloc, 10_000, step, [failing_write].to_vec(alloc)?)?;
     let status = stab(alloc, &words, &mut source, &mut sink);
     Ok((status, sink.held().to_vec(alloc)?))
+}
+
+/// What a mode answers to the text of a job whose streams don't fail, and what it writes.
+fn answered(alloc: Global, mode: &str, job: &str) -> Result<(Status, Vec<u8>), AllocError> {
+    run(alloc, mode, job.as_bytes().to_vec(alloc)?, 4096, 0, 0)
 }
 
 /// What `compile` answers to a job whose streams don't fail, and the text that it writes.

@@ -1,2 +1,4 @@
 pub mod Decimal
+pub mod FirstField
+pub mod FirstLine
 pub mod Hexadecimal

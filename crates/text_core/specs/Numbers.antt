@@ -1,5 +1,5 @@
 -- Decimal digits, and the number that they spell.
-use Rattle.std.specs.Prelude.{ℕ, zero, suc, ◌+◌, ◌-◌, ◌*◌, Bool, true, false, ◌&&◌, ◌||◌, not, nat_le, ◌==◌, List, [], ◌∷◌, length, slice_index}
+use Rattle.std.specs.Prelude.{ℕ, ◌+◌, ◌-◌, ◌*◌, Bool, true, ◌&&◌, ◌||◌, not, nat_le, ◌==◌, Option, Some, None, if◌then◌else◌, List, [], ◌∷◌, length, slice_index}
 use Rattle.std.specs.Char.{is_ascii_digit}
 
 -- each byte is a decimal digit
@@ -19,3 +19,7 @@ value_from n (c ∷ cs) = value_from (n * 10 + (c - 48)) cs
 -- the number that digits spell
 abbrev pub value_of : List ℕ → ℕ
 value_of text = value_from 0 text
+
+-- the number that 1 to 18 digits spell, the first of which is 0 only if it is the only one
+abbrev pub number_of : List ℕ → Option ℕ
+number_of text = if is_decimal text then Some (value_of text) else None

@@ -1,5 +1,7 @@
-//! The texts of numbers, and that the calls succeed where memory is there.
-use crate::{put_bytes, put_dec, put_dec_unsigned, put_hex8, read_dec};
+//! The texts of numbers, lines and fields, and that the calls succeed where memory is there.
+use crate::{
+    Lines, fields, next_field, put_bytes, put_dec, put_dec_unsigned, put_hex8, read_dec, read_hex,
+};
 use std::test::Fail;
 
 #[test]
@@ -55,6 +57,96 @@ fn texts_have_their_numbers(rt: HostRuntime) {
     ] {
         assert_eq!(rt; read_dec(text.as_bytes()), value, "{text}");
     }
+}
+
+#[test]
+fn hexadecimal_digits_have_their_numbers(rt: HostRuntime) {
+    for (text, value) in [
+        ("6", Some(6)),
+        ("00000000", Some(0)),
+        ("DeadBeef", Some(0xdead_beef)),
+        ("ffffffff", Some(u32::MAX)),
+        ("09afAF", Some(0x09_afaf)),
+        ("000000001", None),
+        ("", None),
+        ("0x13", None),
+        ("0000006g", None),
+        ("`", None),
+        ("G", None),
+        ("@", None),
+        ("/", None),
+        (":", None),
+        ("-1", None),
+    ] {
+        assert_eq!(rt; read_hex(text.as_bytes()), value, "{text}");
+    }
+}
+
+#[test]
+fn texts_part_into_lines(rt: HostRuntime) -> Result<(), Fail> {
+    for (text, first, lines) in [
+        ("", 1, ""),
+        ("a", 1, "1<a>"),
+        ("a\n", 1, "1<a>"),
+        ("a\r\nb c\r\n", 7, "7<a>8<b c>"),
+        ("\n\r\n\nz", 1, "1<>2<>3<>4<z>"),
+        ("a\rb\n", 1, "1<a\rb>"),
+        ("a\r\r\n", 1, "1<a\r>"),
+        ("a\r", 1_073_741_824, "1073741824<a\r>"),
+    ] {
+        assert!(rt; text.len() < 100);
+        assert!(rt; 1 <= first);
+        assert!(rt; first <= 1_073_741_824);
+        let mut out = Vec::new(rt.alloc());
+        let mut cursor = match first {
+            1 => Lines::new(text.as_bytes()),
+            _ => Lines::starting_at(text.as_bytes(), first),
+        };
+        for _ in 0..9 {
+            let Some((number, line)) = cursor.next() else {
+                break;
+            };
+            put_dec_unsigned(&mut out, u64::from(number))?;
+            put_bytes(&mut out, b"<")?;
+            put_bytes(&mut out, line)?;
+            put_bytes(&mut out, b">")?;
+        }
+        assert_eq!(rt; out.as_slice(), lines.as_bytes(), "{text}");
+    }
+    Ok(())
+}
+
+#[test]
+fn lines_part_into_fields(rt: HostRuntime) -> Result<(), Fail> {
+    let alloc = rt.alloc();
+    for (line, parts) in [
+        ("", ""),
+        (" \t ", ""),
+        ("ab", "<ab>"),
+        ("\tab  c\t", "<ab><c>"),
+        ("a b\tc\rd", "<a><b><c\rd>"),
+    ] {
+        let mut out = Vec::new(alloc);
+        let mut left = line.as_bytes();
+        for _ in 0..9 {
+            let Some((field, rest)) = next_field(left) else {
+                break;
+            };
+            put_bytes(&mut out, b"<")?;
+            put_bytes(&mut out, field)?;
+            put_bytes(&mut out, b">")?;
+            left = rest;
+        }
+        assert_eq!(rt; out.as_slice(), parts.as_bytes(), "{line}");
+        let mut placed = Vec::new(alloc);
+        for (start, end) in fields(alloc, line.as_bytes())? {
+            put_bytes(&mut placed, b"<")?;
+            put_bytes(&mut placed, line.as_bytes().get(start..end).unwrap_or(b"?"))?;
+            put_bytes(&mut placed, b">")?;
+        }
+        assert_eq!(rt; placed.as_slice(), parts.as_bytes(), "{line}");
+    }
+    Ok(())
 }
 
 #[test]

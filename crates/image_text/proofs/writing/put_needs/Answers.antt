@@ -2,7 +2,7 @@ use Rattle.std.proofs.Common.{◌≡◌, ℕ, List, [], ◌++◌, codes, append_
 use Rattle.std.specs.Fmt.{decimal}
 use Rattle.std.proofs.lemmas.List.{append-nil}
 use Rattle.std.proofs.lemmas.Result.{IfOk-equal}
-use Rattle.image_text.specs.Lines.{◌␣◌, ended, lines_text}
+use Rattle.text_core.specs.WrittenLines.{◌␣◌, ended, lines_text}
 use Rattle.image_text.specs.Report.{needs_lines}
 use Rattle.image_text.proofs.writing.put_needs.Goals as goal
 

@@ -3,7 +3,7 @@ use Rattle.std.specs.Fmt.{decimal, signed_decimal}
 use Rattle.std.proofs.lemmas.Int.{to_z-of_z}
 use Rattle.std.proofs.lemmas.Result.{IfOk-equal}
 use Rattle.text_core.specs.Hexadecimal.{hex8}
-use Rattle.image_text.specs.Lines.{ended}
+use Rattle.text_core.specs.WrittenLines.{ended}
 use Rattle.image_text.specs.Report.{address_of, place_line}
 use Rattle.image_text.proofs.writing.put_place.Goals as goal
 

@@ -3,7 +3,7 @@ use Rattle.std.proofs.lemmas.List.{append-nil}
 use Rattle.std.proofs.lemmas.Slice.Zip.{zip_end}
 use Rattle.plain_program.specs.declared.plain.Function.{Function}
 use Rattle.round_spec.specs.declared.map.Entry.{Entry}
-use Rattle.image_text.specs.Lines.{lines_text}
+use Rattle.text_core.specs.WrittenLines.{lines_text}
 use Rattle.image_text.specs.Report.{place_lines}
 use Rattle.image_text.proofs.writing.put_places.Goals as goal
 

@@ -1,5 +1,5 @@
 use Rattle.std.proofs.Common.{◌≡◌, ◌++◌, length, drop}
-use Rattle.image_text.specs.Lines.{lines_text}
+use Rattle.text_core.specs.WrittenLines.{lines_text}
 use Rattle.image_text.specs.Report.{place_lines}
 use Rattle.image_text.proofs.writing.put_places.Given as goal
 

@@ -1,6 +1,6 @@
 use Rattle.std.proofs.Common.{◌≡◌, ◌++◌, map, drop}
 use Rattle.text_core.specs.Hexadecimal.{hex8}
-use Rattle.image_text.specs.Lines.{lines_text}
+use Rattle.text_core.specs.WrittenLines.{lines_text}
 use Rattle.image_text.proofs.writing.put_words.Given as goal
 
 abbrev pub invariant-loop-word : goal.invariant-loop-word

@@ -5,7 +5,7 @@ use Rattle.std.proofs.lemmas.List.Elements.{All-same, All-weaker}
 use Rattle.text_core.specs.Hexadecimal.{hex8}
 use Rattle.plain_program.specs.Plain.{PlainProgram}
 use Rattle.round_spec.specs.Round.{Compiled}
-use Rattle.image_text.specs.Lines.{◌␣◌, ended, lines_text}
+use Rattle.text_core.specs.WrittenLines.{◌␣◌, ended, lines_text}
 use Rattle.image_text.specs.Report.{IsPlaceReadable, address_of, head_lines, making_lines, needs_lines, place_lines, report_text, word_lines}
 use Rattle.image_text.proofs.Readable.{readable}
 use Rattle.image_text.proofs.writing.report.Goals as goal

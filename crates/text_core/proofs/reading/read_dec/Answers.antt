@@ -1,4 +1,4 @@
-use Rattle.std.proofs.Common.{◌≡◌, sym, ap, ◌∙◌, arith, rules}
+use Rattle.std.proofs.Common.{sym, ◌∙◌}
 use Rattle.text_core.proofs.Decimal.{Decimal-from, value_of-small, is_text, none_else}
 use Rattle.text_core.proofs.reading.read_dec.Goals as goal
 

@@ -1,4 +1,4 @@
-use Rattle.std.proofs.Common.{◌≡◌, refl, sym, ap, ◌∙◌, arith, add-one, drop-cons}
+use Rattle.std.proofs.Common.{refl, sym, ap, ◌∙◌, arith, add-one, drop-cons}
 use Rattle.text_core.specs.Numbers.{value_from}
 use Rattle.text_core.proofs.Decimal.{Decimal-from, value_of-front, value_of-take, digit_at}
 use Rattle.text_core.proofs.reading.value_of.Goals as goal

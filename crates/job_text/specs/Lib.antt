@@ -1,0 +1,5 @@
+pub mod Parts
+pub mod Places
+pub mod Sections
+pub mod Settings
+pub mod Start

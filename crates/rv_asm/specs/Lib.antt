@@ -1,0 +1,3 @@
+pub mod Assembly
+pub mod Listing
+pub mod Laws

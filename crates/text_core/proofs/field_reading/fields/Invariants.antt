@@ -1,0 +1,14 @@
+use Rattle.std.proofs.Common.{◌≡◌, ◌-◌, ◌≤◌, ◌++◌, length, drop, map}
+use Rattle.std.specs.List.{All}
+use Rattle.text_core.specs.Fields.{IsWithin, fields, piece}
+use Rattle.text_core.proofs.field_reading.fields.Given as goal
+
+abbrev pub invariant-loop-start : goal.invariant-loop-start
+invariant-loop-start l = record {
+  inside : l.at ≤ length l.line;
+  fields : map (piece l.line) l.places.items ++ fields (drop l.at l.line) ≡ fields l.line;
+  within : All (IsWithin l.line) l.places.items;
+}
+
+abbrev pub decreases-loop-start : goal.decreases-loop-start
+decreases-loop-start l = length l.line - l.at
