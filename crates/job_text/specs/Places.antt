@@ -1,7 +1,16 @@
--- Where the first header of a text begins.
-use Rattle.std.specs.Prelude.{ℕ, suc, Bool, ◌&&◌, ◌==◌, List, [], ◌∷◌, if◌then◌else◌}
+-- Where the first header of a text begins, and the bytes behind it.
+use Rattle.std.specs.Prelude.{ℕ, suc, Bool, true, ◌&&◌, ◌==◌, List, [], ◌∷◌, drop, if◌then◌else◌}
 
 -- How many bytes stand before the first percent sign with which a line begins. The test says whether a line begins here.
 abbrev pub header_place : Bool → List ℕ → ℕ
 header_place starts [] = 0
 header_place starts (c ∷ cs) = if starts && (c == 37) then 0 else suc (header_place (c == 10) cs)
+
+-- the bytes behind the first line
+abbrev pub behind_line : List ℕ → List ℕ
+behind_line [] = []
+behind_line (c ∷ cs) = if c == 10 then cs else behind_line cs
+
+-- the bytes behind the first header's line
+abbrev pub behind_header : List ℕ → List ℕ
+behind_header bytes = behind_line (drop (header_place true bytes) bytes)

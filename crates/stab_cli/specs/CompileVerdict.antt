@@ -1,21 +1,22 @@
 -- What is said of a job for `compile`.
-use Rattle.std.specs.Prelude.{◌≡◌, ◌⊎◌, ℕ, List}
-use Rattle.plain_program.specs.Plain.{IsInRange}
-use Rattle.stab_cli.specs.PlainJob.{IsPlainJob}
+use Rattle.std.specs.Prelude.{◌≡◌, ℕ, List, Result, Ok, Err}
+use Rattle.stab_cli.specs.Job.{IsSourceJob}
 use Rattle.stab_cli.specs.Refusal.{not_built}
-use Rattle.stab_cli.specs.Verdict.{Accept, Refuse, Verdict}
-use Rattle.stab_cli.specs.declared.plain_job.PlainJob.{PlainJob}
+use Rattle.stab_cli.specs.SourceStages.{IsChecked}
+use Rattle.stab_cli.specs.Stages.{IsVerdictBy, Then}
+use Rattle.stab_cli.specs.Verdict.{Verdict}
 use Rattle.stab_cli.specs.declared.refusal.Refusal.{Refusal}
-use Rattle.stab_cli.specs.declared.refusal.Detail.TheVariants.{Place}
-use Rattle.stab_cli.specs.declared.refusal.TheConstants.{OUT_OF_RANGE}
+use Rattle.stab_cli.specs.declared.source_stages.CheckedProgram.{CheckedProgram}
 
--- the refusal of an update whose value lies outside the function's domain, at the value's place
-abbrev pub out_of_range : PlainJob → Refusal
-out_of_range job = record { code = OUT_OF_RANGE; detail = Place job.line job.token }
+-- The source of a job; a job of another form isn't built yet.
+abbrev pub IsSourceOf : List ℕ → Result (List ℕ) Refusal → Type 0
+IsSourceOf bytes (Ok source) = IsSourceJob bytes source
+IsSourceOf bytes (Err refusal) = ((source : List ℕ) → IsSourceJob bytes source → ⊥) × (refusal ≡ not_built)
 
--- A plain program is accepted where its update is in range, and refused where it isn't. What is no plain program isn't built yet.
+-- A job for `compile` is judged. The source's first line is the job's second.
+abbrev pub IsCompiled : List ℕ → Result CheckedProgram Refusal → Type 0
+IsCompiled bytes = Then (IsSourceOf bytes) (IsChecked 2)
+
+-- It is accepted where its source passes all stages.
 abbrev pub IsCompileVerdict : List ℕ → Verdict → Type 0
-IsCompileVerdict bytes Accept = (job : PlainJob) × IsPlainJob bytes job × IsInRange job.program
-IsCompileVerdict bytes (Refuse refusal) =
-    ((job : PlainJob) × IsPlainJob bytes job × (IsInRange job.program → ⊥) × (refusal ≡ out_of_range job))
-    ⊎ (((job : PlainJob) → IsPlainJob bytes job → ⊥) × (refusal ≡ not_built))
+IsCompileVerdict bytes = IsVerdictBy (IsCompiled bytes)

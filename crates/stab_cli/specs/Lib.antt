@@ -2,8 +2,11 @@
 pub mod Mode
 pub mod Refusal
 pub mod Job
-pub mod PlainJob
 pub mod Verdict
+pub mod Stages
+pub mod SourceStages
+pub mod PlainJob
+pub mod CheckJob
 pub mod CompileVerdict
 pub mod ImageJob
 pub mod ExecJob

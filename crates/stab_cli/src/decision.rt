@@ -7,7 +7,7 @@ use crate::mode::Mode;
 use crate::outcome::Outcome;
 use crate::refusal::not_built;
 use crate::top_call::MAX_INPUT;
-use crate::{asm, compile, exec, list};
+use crate::{asm, check, compile, exec, list};
 use std::alloc::{AllocError, Global};
 
 /// What the mode answers to a job. A mode without a line of its own isn't built yet.
@@ -17,6 +17,7 @@ pub fn decide(alloc: Global, mode: Mode, bytes: &[u8]) -> Result<Outcome, AllocE
     ensures { IfOk result (λ outcome. Answers mode bytes.now outcome) }
 {
     match mode {
+        Mode::Check => check::decide(alloc, bytes),
         Mode::Compile => compile::decide(alloc, bytes),
         Mode::Exec => exec::decide(alloc, bytes),
         Mode::List => list::decide(alloc, bytes),

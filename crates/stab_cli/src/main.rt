@@ -2,6 +2,7 @@
 #![tactic(auto)]
 
 mod asm;
+mod check;
 mod compile;
 mod decision;
 mod exec;
@@ -11,8 +12,8 @@ mod list;
 mod machine_sizes;
 mod mode;
 mod outcome;
-mod plain_job;
 mod refusal;
+mod source_stages;
 mod status;
 mod top_call;
 

@@ -6,6 +6,18 @@ ghost use Rattle.stab_cli.specs.Refusal.{not_built};
 use stab_io::Bytes;
 use std::alloc::{AllocError, Global};
 
+/// A byte of the source begins no token.
+pub const BAD_BYTE: u32 = 101;
+
+/// A word of the source is no keyword, no name and no number.
+pub const BAD_TOKEN: u32 = 102;
+
+/// No program goes on with a token of the source, or the source ends too early.
+pub const UNEXPECTED_TOKEN: u32 = 103;
+
+/// A term or a rule of the source is deeper than 48.
+pub const TOO_DEEP: u32 = 104;
+
 /// The updated value lies outside its function's domain.
 pub const OUT_OF_RANGE: u32 = 207;
 
@@ -50,7 +62,17 @@ pub struct Refusal {
 }
 
 impl Refusal {
-    ghost use Rattle.stab_cli.specs.Refusal.{at_line, refusal_line};
+    ghost use Rattle.stab_cli.specs.Refusal.{alone, at_line, at_place, refusal_line};
+
+    /// The refusal of a job without numbers behind its code.
+    pub fn alone(code: u32) -> Refusal
+        ensures { result ≡ alone code }
+    {
+        Refusal {
+            code,
+            detail: Detail::Nothing,
+        }
+    }
 
     /// The refusal of a job for one of its lines.
     pub fn at_line(code: u32, line: u32) -> Refusal
@@ -59,6 +81,16 @@ impl Refusal {
         Refusal {
             code,
             detail: Detail::Line { line },
+        }
+    }
+
+    /// The refusal of a job for a token of its source, which stands on this line of the job.
+    pub fn at_place(code: u32, line: u32, token: u32) -> Refusal
+        ensures { result ≡ at_place code line token }
+    {
+        Refusal {
+            code,
+            detail: Detail::Place { line, token },
         }
     }
 
@@ -80,8 +112,5 @@ impl Refusal {
 pub fn not_built() -> Refusal
     ensures { result ≡ not_built }
 {
-    Refusal {
-        code: NOT_BUILT,
-        detail: Detail::Nothing,
-    }
+    Refusal::alone(NOT_BUILT)
 }

@@ -8,6 +8,7 @@ use stab_io::{MemSink, MemSource};
 use std::alloc::{AllocError, Global};
 
 mod assembly_jobs;
+mod check_jobs;
 mod hart_jobs;
 mod images;
 mod jobs;

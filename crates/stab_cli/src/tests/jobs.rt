@@ -22,7 +22,7 @@ fn the_first_session(rt: HostRuntime) -> Result<(), Fail> {
 #[test]
 fn modes_that_are_not_built(rt: HostRuntime) -> Result<(), Fail> {
     let alloc = rt.alloc();
-    for mode in ["check", "run", "model", "make"] {
+    for mode in ["run", "model", "make"] {
         let (status, held) = run(alloc, mode, SEVEN.to_vec(alloc)?, 16, 0, 0)?;
         assert_eq!(rt; status, Status::Refused(901), "{mode}");
         assert_eq!(rt; held.as_slice(), b"refused 901\n".as_slice(), "{mode}");
@@ -36,7 +36,6 @@ fn jobs_of_another_form(rt: HostRuntime) -> Result<(), Fail> {
     for text in [
         "",
         "%source",
-        "%source\n",
         " %source\nmachine m\nrule skip\n",
         "machine m\nrule skip\n",
         "\n%source\nmachine m\nrule skip\n",
@@ -56,38 +55,142 @@ fn jobs_of_another_form(rt: HostRuntime) -> Result<(), Fail> {
 #[test]
 fn programs_that_are_not_plain(rt: HostRuntime) -> Result<(), Fail> {
     let alloc = rt.alloc();
-    for source in [
-        "machine m\ndomain D = 0 to 9\ncontrolled x : D\nrule par x := 7 end",
-        "machine m\ndomain D = 0 to 9\ncontrolled x : D\nrule x := x",
-        "machine m\ndomain D = 0 to 9\ncontrolled x : D\nrule x := (1 + 1)",
-        "machine m\ndomain D = 0 to 9\ncontrolled x : D\nrule y := 7",
-        "machine m\ndomain D = 0 to 9\ncontrolled x : D\nrule D := 7",
-        "machine m\ndomain D = 0 to 9\ncontrolled x : D\nrule x(1) := 7",
-        "machine m\ndomain D = 0 to 9\ncontrolled x(D) : D\nrule skip",
-        "machine m\ndomain D = 0 to 9\ninput x : D\nrule skip",
-        "machine m\ndomain D = 0 to 9\noutput x : D\nrule skip",
-        "machine m\ndomain D = 0 to 9\nstatic x : D = [ 7 ]\nrule skip",
-        "machine m\ndomain D = { a, b }\ncontrolled x : D\nrule skip",
-        "machine m\ndomain D = 0 to 9\ncontrolled x : D\nlegal (x = 7)\nrule x := 7",
-        "machine m\ndomain D = 9 to 0\nrule skip",
-        "machine m\ndomain D = 0 to 65536\nrule skip",
-        "machine m\ndomain D = -1048577 to 0\nrule skip",
-        "machine m\ndomain D = 0 to 1048577\nrule skip",
-        "machine m\ndomain D = 0 to 9\ndomain D = 0 to 9\nrule skip",
-        "machine m\ndomain D = 0 to 9\ncontrolled D : D\nrule skip",
-        "machine m\ncontrolled x : D\ndomain D = 0 to 9\nrule skip",
-        "machine m\ndomain D = 0 to 9\ncontrolled x : D\ncontrolled y : x\nrule skip",
-        "machine m\ndomain D = 0 to 9\ncontrolled x : D\nrule x := 07",
-        "machine m\ndomain D = 0 to 9\ncontrolled x : D\nrule x := 2147483648",
-        "machine m\ndomain D = 0 to 9\ncontrolled x : D\nrule x := -1",
-        "machine m\ndomain D = 0 to 9\ncontrolled x : D\nrule x = 7",
-        "machine m\ndomain D = 0 to 9\ncontrolled x : D\nrule x := 7 ?",
-        "machine m\ndomain D = 0 to 9\ncontrolled x : D\nrule x := 7 skip",
-        "machine m",
+    for (source, code, line) in [
+        (
+            "machine m\ndomain D = 0 to 9\ncontrolled x : D\nrule par x := 7 end",
+            901,
+            "refused 901\n",
+        ),
+        (
+            "machine m\ndomain D = 0 to 9\ncontrolled x : D\nrule x := x",
+            901,
+            "refused 901\n",
+        ),
+        (
+            "machine m\ndomain D = 0 to 9\ncontrolled x : D\nrule x := (1 + 1)",
+            901,
+            "refused 901\n",
+        ),
+        (
+            "machine m\ndomain D = 0 to 9\ncontrolled x : D\nrule y := 7",
+            201,
+            "refused 201 5 14\n",
+        ),
+        (
+            "machine m\ndomain D = 0 to 9\ncontrolled x : D\nrule D := 7",
+            201,
+            "refused 201 5 14\n",
+        ),
+        (
+            "machine m\ndomain D = 0 to 9\ncontrolled x : D\nrule x(1) := 7",
+            205,
+            "refused 205 5 14\n",
+        ),
+        (
+            "machine m\ndomain D = 0 to 9\ncontrolled x(D) : D\nrule skip",
+            901,
+            "refused 901\n",
+        ),
+        (
+            "machine m\ndomain D = 0 to 9\ninput x : D\nrule skip",
+            901,
+            "refused 901\n",
+        ),
+        (
+            "machine m\ndomain D = 0 to 9\noutput x : D\nrule skip",
+            901,
+            "refused 901\n",
+        ),
+        (
+            "machine m\ndomain D = 0 to 9\nstatic x : D = [ 7 ]\nrule skip",
+            901,
+            "refused 901\n",
+        ),
+        (
+            "machine m\ndomain D = { a, b }\ncontrolled x : D\nrule skip",
+            901,
+            "refused 901\n",
+        ),
+        (
+            "machine m\ndomain D = 0 to 9\ncontrolled x : D\nlegal (x = 7)\nrule x := 7",
+            901,
+            "refused 901\n",
+        ),
+        (
+            "machine m\ndomain D = 9 to 0\nrule skip",
+            203,
+            "refused 203 3 4\n",
+        ),
+        (
+            "machine m\ndomain D = 0 to 65536\nrule skip",
+            204,
+            "refused 204 3 4\n",
+        ),
+        (
+            "machine m\ndomain D = -1048577 to 0\nrule skip",
+            204,
+            "refused 204 3 4\n",
+        ),
+        (
+            "machine m\ndomain D = 0 to 1048577\nrule skip",
+            204,
+            "refused 204 3 4\n",
+        ),
+        (
+            "machine m\ndomain D = 0 to 9\ndomain D = 0 to 9\nrule skip",
+            202,
+            "refused 202 4 10\n",
+        ),
+        (
+            "machine m\ndomain D = 0 to 9\ncontrolled D : D\nrule skip",
+            202,
+            "refused 202 4 10\n",
+        ),
+        (
+            "machine m\ncontrolled x : D\ndomain D = 0 to 9\nrule skip",
+            201,
+            "refused 201 3 6\n",
+        ),
+        (
+            "machine m\ndomain D = 0 to 9\ncontrolled x : D\ncontrolled y : x\nrule skip",
+            201,
+            "refused 201 5 16\n",
+        ),
+        (
+            "machine m\ndomain D = 0 to 9\ncontrolled x : D\nrule x := 07",
+            102,
+            "refused 102\n",
+        ),
+        (
+            "machine m\ndomain D = 0 to 9\ncontrolled x : D\nrule x := 2147483648",
+            102,
+            "refused 102\n",
+        ),
+        (
+            "machine m\ndomain D = 0 to 9\ncontrolled x : D\nrule x := -1",
+            103,
+            "refused 103\n",
+        ),
+        (
+            "machine m\ndomain D = 0 to 9\ncontrolled x : D\nrule x = 7",
+            103,
+            "refused 103\n",
+        ),
+        (
+            "machine m\ndomain D = 0 to 9\ncontrolled x : D\nrule x := 7 ?",
+            101,
+            "refused 101\n",
+        ),
+        (
+            "machine m\ndomain D = 0 to 9\ncontrolled x : D\nrule x := 7 skip",
+            103,
+            "refused 103\n",
+        ),
+        ("machine m", 103, "refused 103\n"),
     ] {
         let (status, held) = compiled(alloc, job(alloc, source)?)?;
-        assert_eq!(rt; status, Status::Refused(901), "{source}");
-        assert_eq!(rt; held.as_slice(), b"refused 901\n".as_slice(), "{source}");
+        assert_eq!(rt; status, Status::Refused(code), "{source}");
+        assert_eq!(rt; held.as_slice(), line.as_bytes(), "{source}");
     }
     Ok(())
 }

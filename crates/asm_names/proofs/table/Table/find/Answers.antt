@@ -1,0 +1,10 @@
+use Rattle.std.proofs.Common.{ap, ◌∙◌, refl}
+use Rattle.std.specs.Prelude.{bytes_eq}
+use Rattle.std.specs.Option.{option_map}
+use Rattle.asm_names.specs.Table.{scope, known}
+use Rattle.asm_names.proofs.Tables.{found}
+use Rattle.asm_names.proofs.table.Table.find.Goals as goal
+
+pub returns : goal.returns
+unfolding scope
+returns c = ap (option_map known) c.get.ensures.value ∙ (found (bytes_eq c.bytes.result.now) c.args.self.now.entries.entries ∙ rw c.bytes.ensures.text refl)

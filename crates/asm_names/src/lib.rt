@@ -1,0 +1,23 @@
+//! Names of a parsed program. [`resolve`] replaces the names of its domains, functions, enumerators and binders by
+//! numbers, or finds the first fault of its names and sorts.
+#![tactic(auto)]
+
+mod declarations;
+mod fault;
+mod law;
+mod program;
+mod resolution;
+mod resolved_rule;
+mod resolved_term;
+mod rule;
+mod sort;
+mod table;
+mod term;
+
+pub use fault::{NameEnd, NameFault};
+pub use law::plain_programs_are_faultless;
+pub use program::{Domain, Fun, Resolved};
+pub use resolution::resolve;
+pub use resolved_rule::{ResolvedRule, ResolvedRules};
+pub use resolved_term::{ResolvedTerm, ResolvedTerms};
+pub use sort::{Need, Sort};
