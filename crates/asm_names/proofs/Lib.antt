@@ -12,3 +12,9 @@ pub mod ItemsInTurn
 pub mod Sizes
 pub mod Numbering
 pub mod PlainPrograms
+pub mod ResolvedLevels
+pub mod Known
+pub mod WellFormedTerms
+pub mod WellFormedRules
+pub mod WellFormedDeclarations
+pub mod WellFormedPrograms

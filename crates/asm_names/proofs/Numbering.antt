@@ -42,13 +42,13 @@ no_functions domain index [] = refl
 no_functions domain index (w ∷ ws) =
     sum_by-cons (λ e. cond (is_function e.1) 1 0) (w, Enumerator domain index) (items_from domain (index + 1) ws) ∙ ap (λ n. 0 + n) (no_functions domain (index + 1) ws)
 
-new_domains : (names : Scope) (d : Decl) → domains_in (declared names d) ≡ length (resolved_domains (d ∷ []))
+pub new_domains : (names : Scope) (d : Decl) → domains_in (declared names d) ≡ length (resolved_domains (d ∷ []))
 new_domains names (decls.Range w lo hi) = refl
 new_domains names (decls.Names w ws) =
     sum_by-cons (λ e. cond (is_domain e.1) 1 0) (w, Domain (domains_in names) (length ws) (sorts.List (domains_in names))) (items_from (domains_in names) 0 ws) ∙ ap (λ n. 1 + n) (no_domains (domains_in names) 0 ws)
 new_domains names (decls.Fun kind w args codomain table) = refl
 
-new_functions : (names : Scope) (d : Decl) → functions_in (declared names d) ≡ length (resolved_funs names (d ∷ []))
+pub new_functions : (names : Scope) (d : Decl) → functions_in (declared names d) ≡ length (resolved_funs names (d ∷ []))
 new_functions names (decls.Range w lo hi) = refl
 new_functions names (decls.Names w ws) =
     sum_by-cons (λ e. cond (is_function e.1) 1 0) (w, Domain (domains_in names) (length ws) (sorts.List (domains_in names))) (items_from (domains_in names) 0 ws) ∙ ap (λ n. 0 + n) (no_functions (domains_in names) 0 ws)

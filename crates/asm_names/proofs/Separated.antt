@@ -1,8 +1,12 @@
 -- Terms in a list, one after another.
 use Rattle.std.proofs.Common.{◌≡◌, ℕ, zero, suc, ◌+◌, ◌<◌, ◌≤◌, List, [], ◌∷◌, ◌++◌, map, drop, get_or, length, Some, refl, ap, sym, ◌∙◌, arith, add-one}
+use Rattle.std.specs.Prelude.{slice_get}
 use Rattle.std.proofs.Math.Seq.{drop-cons}
+use Rattle.std.proofs.lemmas.Option.{slice_get-get_or}
 use Rattle.asm_tree.specs.declared.term.Term.{Term}
 use Rattle.asm_names.specs.declared.sort.Sort.{Sort}
+use Rattle.asm_names.specs.declared.sort.Sort.TheVariants as sorts
+use Rattle.asm_names.specs.declared.sort.Need.{Need}
 use Rattle.asm_names.specs.Sorts.{same_as}
 use Rattle.asm_names.specs.Meanings.{Scope}
 use Rattle.asm_names.specs.Places.{term_tokens, parted, in_parentheses}
@@ -26,9 +30,9 @@ module _ (i : ℕ) (ts : List Term) (t : Term) (there : i < length ts) (is : t �
   pub parted-next : parted (map term_tokens (drop i ts)) ≡ term_tokens t + 1 + parted (map term_tokens (drop (i + 1) ts))
   parted-next = ap (λ us. parted (map term_tokens us)) next
 
-  pub each_faults-next : (scope : Scope) (ss : List Sort) (d : Sort) (at : ℕ) → i < length ss
+  pub each_faults-next : (scope : Scope) (ss : List Sort) (need : Need) (at : ℕ) → i < length ss → need ≡ same_as (slice_get ss i)
       → each_faults (map Some (drop i ss)) (map (part scope) (drop i ts)) at
-      ≡ term_faults scope t (same_as (Some (get_or ss i d))) at ++ each_faults (map Some (drop (i + 1) ss)) (map (part scope) (drop (i + 1) ts)) (at + term_tokens t + 1)
-  each_faults-next scope ss d at within =
-      let sorted : drop i ss ≡ get_or ss i d ∷ drop (i + 1) ss = rw add-one (drop-cons ss i d within) in
-      rw (sorted, next) refl
+      ≡ term_faults scope t need at ++ each_faults (map Some (drop (i + 1) ss)) (map (part scope) (drop (i + 1) ts)) (at + term_tokens t + 1)
+  each_faults-next scope ss need at within needed =
+      let sorted : drop i ss ≡ get_or ss i sorts.Int ∷ drop (i + 1) ss = rw add-one (drop-cons ss i sorts.Int within) in
+      rw (needed, slice_get-get_or ss i sorts.Int within, sorted, next) refl

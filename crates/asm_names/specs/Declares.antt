@@ -7,7 +7,7 @@ use Rattle.asm_names.specs.declared.declarations.Declarations.{Declarations}
 use Rattle.asm_names.specs.declared.declarations.Signature.{Signature}
 use Rattle.asm_names.specs.declared.fault.NameEnd.{NameEnd}
 use Rattle.asm_names.specs.Faults.{Judges}
-use Rattle.asm_names.specs.Meanings.{Scope, meaning_of, number_of, sort_of_domain, domains_in, functions_in}
+use Rattle.asm_names.specs.Meanings.{Scope, Function, meaning_of, number_of, sort_of_domain, domains_in, functions_in}
 use Rattle.asm_names.specs.Places.{decl_tokens}
 use Rattle.asm_names.specs.DeclFaults.{declared, decl_faults, constants_of}
 use Rattle.asm_names.specs.Programs.{resolved_domains, resolved_funs, resolved_const}
@@ -38,3 +38,10 @@ pub record IsSignature (names : Scope) (kind : Kind) (args : List (List ℕ)) (d
   pub codomain : s.codomain ≡ number_of (meaning_of names domain)
   pub values : Some s.values ≡ sort_of_domain (meaning_of names domain)
   pub table : s.table ≡ map (resolved_const names) (constants_of kind constants)
+
+-- a function with this signature was added to those before it
+pub record AddsFunction (kind : Kind) (name : List ℕ) (s : Signature) (old new : Declarations) : Type 0 where
+  pub names : scope new.table ≡ scope old.table ++ (name, Function (functions_in (scope old.table)) kind (map Some s.sorts) (Some s.values)) ∷ []
+  pub funs : new.funs ≡ old.funs ++ record { kind = kind; name = name; args = s.numbers; codomain = s.codomain; table = s.table } ∷ []
+  pub domains : new.domains ≡ old.domains
+  pub place : new.place ≡ old.place

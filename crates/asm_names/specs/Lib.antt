@@ -11,6 +11,9 @@ pub mod RuleFaults
 pub mod Rules
 pub mod DeclFaults
 pub mod Programs
+pub mod Resolving
 pub mod JudgingRules
 pub mod Order
 pub mod Declares
+pub mod ResolvedPlaces
+pub mod WellFormed

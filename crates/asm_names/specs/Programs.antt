@@ -1,6 +1,5 @@
 -- The faults of a program, and the program in numbers.
-use Rattle.std.specs.Prelude.{◌≡◌, ℕ, ◌+◌, ℤ, pos, List, [], ◌∷◌, ◌++◌, length, map, Option, Some, None}
-use Rattle.std.specs.Option.{option_map}
+use Rattle.std.specs.Prelude.{ℕ, ◌+◌, ℤ, pos, List, [], ◌∷◌, ◌++◌, length, map, Option, Some, None}
 use Rattle.asm_tree.specs.declared.decl.Const.{Const}
 use Rattle.asm_tree.specs.declared.decl.Const.TheVariants as consts
 use Rattle.asm_tree.specs.declared.decl.Decl.{Decl}
@@ -9,17 +8,14 @@ use Rattle.asm_tree.specs.Programs.{Parts}
 use Rattle.asm_tree.specs.declared.term.Term.{Term}
 use Rattle.asm_names.specs.declared.program.Domain.{Domain}
 use Rattle.asm_names.specs.declared.program.Fun.{Fun}
-use Rattle.asm_names.specs.declared.program.Resolved.{Resolved}
 use Rattle.asm_names.specs.declared.sort.Need.TheVariants as needs
 use Rattle.asm_names.specs.declared.sort.Sort.TheVariants as sorts
 use Rattle.asm_names.specs.Faults.{Fault}
 use Rattle.asm_names.specs.Meanings.{Meaning, Enumerator, Scope, meaning_of, number_of}
-use Rattle.asm_names.specs.Places.{decls_tokens, legal_tokens, rule_binders}
+use Rattle.asm_names.specs.Places.{decls_tokens, legal_tokens}
 use Rattle.asm_names.specs.TermFaults.{term_faults}
 use Rattle.asm_names.specs.RuleFaults.{rule_faults}
 use Rattle.asm_names.specs.DeclFaults.{declared, names_after, decls_faults, range_size, constants_of}
-use Rattle.asm_names.specs.Terms.{resolved_term}
-use Rattle.asm_names.specs.Rules.{resolved_rule}
 
 -- the names that a program declares
 abbrev pub names_of : Parts → Scope
@@ -72,13 +68,3 @@ resolved_funs scope (decls.Fun kind name args codomain table ∷ others) =
       table = map (resolved_const scope) (constants_of kind table);
     }
     ∷ resolved_funs (scope ++ declared scope (decls.Fun kind name args codomain table)) others
-
--- a program is this one with its names replaced by numbers
-pub record Resolves (program : Parts) (r : Resolved) : Type 0 where
-  pub source : r.source ≡ program
-  pub name : r.name ≡ program.name
-  pub domains : r.domains ≡ resolved_domains program.decls
-  pub funs : r.funs ≡ resolved_funs [] program.decls
-  pub binders : r.binders ≡ rule_binders program.rule
-  pub legal : r.legal ≡ option_map (resolved_term (names_of program)) program.legal
-  pub rule : r.rule ≡ resolved_rule program.rule (names_of program) 0

@@ -43,7 +43,7 @@ resolved_rule_by Rule-F.Skip scope binders = resolved_rules.Skip
 resolved_rule_by (Rule-F.Update name args value) scope binders =
     resolved_rules.Update (number_of (meaning_of scope name)) (map (resolved_term scope) args) (resolved_term scope value)
 resolved_rule_by (Rule-F.If guard then_rule else_rule) scope binders =
-    resolved_rules.If (resolved_term scope guard) (then_rule.1 scope binders) (resolved_else scope else_rule (binders + rule_binders then_rule.0))
+    resolved_rules.If (resolved_term scope guard) (then_rule.1 scope binders) (resolved_else scope else_rule (binders + rule_binders then_rule.0)) (is_some else_rule)
 resolved_rule_by (Rule-F.Par rules) scope binders = resolved_rules.Par (resolved_each scope rules binders)
 resolved_rule_by (Rule-F.Forall var domain guard body) scope binders =
     let inner = bound scope var binders (sort_of_domain (meaning_of scope domain)) in
@@ -51,7 +51,7 @@ resolved_rule_by (Rule-F.Forall var domain guard body) scope binders =
 resolved_rule_by (Rule-F.Choose var domain guard body else_rule) scope binders =
     let inner = bound scope var binders (sort_of_domain (meaning_of scope domain)) in
     resolved_rules.Choose binders (number_of (meaning_of scope domain)) (resolved_term inner guard) (body.1 inner (binders + 1))
-    (resolved_else scope else_rule (binders + 1 + rule_binders body.0))
+    (resolved_else scope else_rule (binders + 1 + rule_binders body.0)) (is_some else_rule)
 resolved_rule_by (Rule-F.Let var value body) scope binders =
     resolved_rules.Let binders (resolved_term scope value) (body.1 (bound scope var binders (term_sort scope value)) (binders + 1))
 

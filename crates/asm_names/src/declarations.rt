@@ -7,7 +7,6 @@ ghost use Rattle.asm_names.specs.declared.sort.Need.TheVariants as needs;
 ghost use Rattle.asm_names.specs.DeclFaults as spec;
 ghost use Rattle.asm_names.specs.Faults.{Judges, fault};
 ghost use Rattle.asm_names.specs.Meanings.{meaning_of, size_of_domain};
-ghost use Rattle.asm_names.specs.Places.{const_tokens, number_tokens};
 ghost use Rattle.asm_names.specs.Programs.{resolved_const};
 ghost use Rattle.asm_names.specs.Table.{scope};
 
@@ -16,6 +15,7 @@ use crate::program::{Domain, Fun};
 use crate::sort::{Need, Sort};
 use crate::table::{Entry, Table};
 use crate::term::check_sort;
+use crate::tokens::{tokens_of_bound, tokens_of_const};
 use asm_tree::{Const, Consts, Decl, Kind, Name, Names};
 use sqlite_items::Items;
 use std::alloc::{AllocError, Global};
@@ -52,13 +52,6 @@ fn copy_names(alloc: Global, names: &[Name]) -> Result<Names, AllocError>
         copies.push(name.copy(alloc)?)?;
     }
     Ok(copies)
-}
-
-// A bound is one token, or two behind a minus.
-fn tokens_of_bound(bound: i64) -> u32
-    ensures { result ≡ number_tokens bound }
-{
-    if bound < 0 { 2 } else { 1 }
 }
 
 // Whether a bound is too far from 0.
@@ -120,17 +113,6 @@ fn find_const(table: &Table, constant: &Const, values: Sort, token: u32) -> Resu
                 token,
             }),
         },
-    }
-}
-
-// How many tokens a constant is.
-fn tokens_of_const(constant: &Const) -> u32
-    ensures count { result ≡ const_tokens constant.now }
-    ensures small { result ≤ 2 }
-{
-    match constant {
-        Const::Number(value) => tokens_of_bound(*value),
-        Const::Named(_) => 1,
     }
 }
 
@@ -199,7 +181,7 @@ impl Declarations {
     ghost use Rattle.asm_tree.specs.declared.decl.Decl.TheVariants as decls;
     ghost use Rattle.asm_names.specs.declared.sort.Need.TheVariants as needs;
     ghost use Rattle.asm_names.specs.DeclFaults.{consts_faults, constants_of, domains_faults, items_faults, items_from, signature_faults};
-    ghost use Rattle.asm_names.specs.Declares.{IsNumbered, IsSignature, JudgesDecl};
+    ghost use Rattle.asm_names.specs.Declares.{AddsFunction, IsNumbered, IsSignature, JudgesDecl};
     ghost use Rattle.asm_names.specs.Faults.{Judges};
     ghost use Rattle.asm_names.specs.Meanings.{Function, functions_in, meaning_of, number_of, sort_of_domain};
     ghost use Rattle.asm_names.specs.Places.{consts_tokens, decl_tokens, names_tokens, table_tokens};
@@ -393,11 +375,7 @@ impl Declarations {
         requires new { meaning_of (scope self.old.table) name.now ≡ None }
         requires numbered { functions_in (scope self.old.table) ≡ length self.old.funs }
         requires room { length self.old.funs < 2 ^ 32 }
-        ensures added { OnOk result ((scope self.new.table ≡ scope self.old.table
-            ++ (name.now, Function (functions_in (scope self.old.table)) kind (map Some signature.sorts) (Some signature.values)) ∷ [])
-            × (self.new.funs ≡ self.old.funs
-            ++ record { kind = kind; name = name.now; args = signature.numbers; codomain = signature.codomain; table = signature.table } ∷ [])
-            × (self.new.domains ≡ self.old.domains) × (self.new.place ≡ self.old.place)) }
+        ensures added { OnOk result (AddsFunction kind name.now signature self.old self.new) }
         ensures memory { OnErr result (result ≡ Err NameEnd.NoMemory) }
     {
         let Signature {

@@ -13,11 +13,13 @@ mod rule;
 mod sort;
 mod table;
 mod term;
+mod tokens;
 
 pub use fault::{NameEnd, NameFault};
-pub use law::plain_programs_are_faultless;
-pub use program::{Domain, Fun, Resolved};
+pub use law::{plain_programs_are_faultless, resolved_programs_are_well_formed, tokens_are_kept};
+pub use program::{Domain, Fun, Interval, Resolved};
 pub use resolution::resolve;
 pub use resolved_rule::{ResolvedRule, ResolvedRules};
 pub use resolved_term::{ResolvedTerm, ResolvedTerms};
 pub use sort::{Need, Sort};
+pub use tokens::decl_tokens;

@@ -1,5 +1,15 @@
 //! Programs whose names are replaced by numbers.
 
+ghost use Rattle.std.specs.Prelude.{◌≡◌, [], length};
+ghost use Rattle.std.specs.Option.{option_map};
+ghost use Rattle.std.specs.Coded.{Coded-set};
+ghost use Rattle.std.proofs.Props.{props};
+ghost use Rattle.asm_names.specs.Places.{rule_binders};
+ghost use Rattle.asm_names.specs.Programs.{names_of, program_faults, resolved_domains, resolved_funs};
+ghost use Rattle.asm_names.specs.Rules.{resolved_rule};
+ghost use Rattle.asm_names.specs.Terms.{resolved_term};
+
+use crate::law::resolved_programs_are_well_formed;
 use crate::resolved_rule::ResolvedRule;
 use crate::resolved_term::ResolvedTerm;
 use asm_tree::{Kind, Name, Program};
@@ -31,6 +41,15 @@ pub struct Fun {
     pub table: Items<i64>,
 }
 
+/// The whole numbers from `lo` to `hi`.
+#[derive(Clone, Copy, Debug, PartialEq, Eq)]
+pub struct Interval {
+    /// The least.
+    pub lo: i64,
+    /// The greatest.
+    pub hi: i64,
+}
+
 /// A program whose names are replaced by numbers. Domains, functions and binders are each numbered from 0 in the order of
 /// the text.
 #[derive(Drop)]
@@ -45,8 +64,45 @@ pub struct Resolved {
     pub funs: Items<Fun>,
     /// How many binders the rule has.
     pub binders: u32,
+    /// An interval for each binder, from 0 to 0 at first: room for what is found of their values without more memory.
+    pub intervals: Items<Interval>,
     /// The term that says which states are legal, where there is one.
     pub legal: Option<Boxed<ResolvedTerm>>,
     /// The rule of one step.
     pub rule: Boxed<ResolvedRule>,
+    /// The source has no fault of its names and sorts.
+    pub ghost faultless: { program_faults source ≡ [] } by { Prim.hlevel props },
+    /// The name is the source's.
+    pub ghost same_name: { name ≡ source.name },
+    /// The domains are those that the source declares.
+    pub ghost domains_resolved: { domains ≡ resolved_domains source.decls } by { Coded-set domains-code _ _ },
+    /// The functions are those that the source declares.
+    pub ghost funs_resolved: { funs ≡ resolved_funs [] source.decls } by { Coded-set funs-code _ _ },
+    /// Every binder of the source's rule is counted.
+    pub ghost all_binders: { binders ≡ rule_binders source.rule },
+    /// Each binder has an interval.
+    pub ghost one_interval_each: { length intervals ≡ binders },
+    /// The legal term is the source's, in numbers.
+    pub ghost legal_resolved: { legal ≡ option_map (resolved_term (names_of source)) source.legal } by { Coded-set legal-code _ _ },
+    /// The rule is the source's, in numbers.
+    pub ghost rule_resolved: { rule ≡ resolved_rule source.rule (names_of source) 0 } by { Coded-set rule-code _ _ },
+}
+
+impl Resolved {
+    ghost use Rattle.asm_tree.specs.Programs.{IsProgram};
+    ghost use Rattle.asm_names.specs.Resolving.{Resolves};
+    ghost use Rattle.asm_names.specs.WellFormed.{IsWellFormed};
+
+    /// A resolved program comes from one that has a text and no fault of its names. The function does nothing; its contract
+    /// is the law.
+    pub fn comes_from_faultless(&self)
+        ensures program { IsProgram self.now.source }
+        ensures faultless { program_faults self.now.source ≡ [] }
+        ensures resolves { Resolves self.now.source self.now }
+        ensures intervals { length self.now.intervals ≡ self.now.binders }
+        ensures well_formed { IsWellFormed self.now }
+    {
+        resolved_programs_are_well_formed();
+        let _ = self.source.rule();
+    }
 }

@@ -1,21 +1,22 @@
 //! The names of whole programs.
 
-ghost use Rattle.std.specs.Prelude.{◌≡◌, [], ℕ, ◌+◌, ◌^◌, ◌<◌};
+ghost use Rattle.std.specs.Prelude.{◌≡◌, [], ℕ, ◌+◌, ◌^◌, ◌<◌, pos, replicate, IfOk};
 ghost use Rattle.asm_names.specs.Table.{scope};
-ghost use Rattle.asm_names.specs.Places.{decls_tokens, program_tokens};
+ghost use Rattle.asm_names.specs.Places.{decls_tokens, program_tokens, rule_binders};
 ghost use Rattle.asm_names.specs.Faults.{Judges};
 ghost use Rattle.asm_names.specs.Order.{Ascending};
 ghost use Rattle.asm_names.specs.DeclFaults.{decls_faults, names_after};
-ghost use Rattle.asm_names.specs.Programs.{program_faults, resolved_domains, resolved_funs, Resolves};
+ghost use Rattle.asm_names.specs.Programs.{program_faults, resolved_domains, resolved_funs};
+ghost use Rattle.asm_names.specs.Resolving.{Resolves};
 
 use crate::declarations::Declarations;
 use crate::fault::NameEnd;
-use crate::program::Resolved;
+use crate::program::{Interval, Resolved};
 use crate::rule::Walk;
 use crate::table::Table;
 use asm_tree::{Decl, Program};
 use sqlite_items::{Boxed, Items};
-use std::alloc::Global;
+use std::alloc::{AllocError, Global};
 
 // The declarations of a program, the first token of which is its third.
 #[tactic(auto, using(crate::proofs::Firsts::first_rules))]
@@ -37,13 +38,22 @@ fn declare_all(alloc: Global, decls: &[Decl]) -> Result<Declarations, NameEnd>
     Ok(found)
 }
 
+// As many intervals from 0 to 0.
+fn no_intervals(alloc: Global, count: u32) -> Result<Items<Interval>, AllocError>
+    ensures { IfOk result (λ intervals. intervals ≡ replicate count (record { lo = pos 0; hi = pos 0 })) }
+{
+    let intervals = vec![in alloc; Interval { lo: 0, hi: 0 }; count as usize]?;
+    Ok(Items::from_vec(intervals))
+}
+
 /// The program with its names replaced by numbers. Err with the first fault of its names and sorts, which has the least
 /// token, and there the least code; or where memory runs out. The program has fewer than 2,147,483,648 tokens. The
 /// recursion is as deep as the program's terms and rules.
 #[tactic(auto, using(crate::proofs::Firsts::first_rules))]
 pub fn resolve(alloc: Global, program: &Program) -> Result<Resolved, NameEnd>
     requires { program_tokens program.now < 2 ^ 31 }
-    ensures first { Judges (program_faults program.now) result (λ resolved. Resolves program.now resolved) }
+    ensures first { Judges (program_faults program.now) result (λ resolved. Resolves program.now resolved
+        × (resolved.intervals ≡ replicate (rule_binders program.now.rule) (record { lo = pos 0; hi = pos 0 }))) }
 
     // The faults are listed by token, and at one token by code, so the first has the least token, and there the least
     // code.
@@ -69,6 +79,7 @@ pub fn resolve(alloc: Global, program: &Program) -> Result<Resolved, NameEnd>
         domains,
         funs,
         binders: walk.binders,
+        intervals: no_intervals(alloc, walk.binders)?,
         legal,
         rule,
     })

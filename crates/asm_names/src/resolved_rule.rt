@@ -7,7 +7,7 @@ use sqlite_items::{Boxed, Items};
 pub type ResolvedRules = Items<ResolvedRule>;
 
 /// A rule. Functions, domains and binders are named by their numbers. An absent `else` is `Skip`, and an absent guard is
-/// the term `(0 = 0)`.
+/// the term `(0 = 0)`; `has_else` and `guarded` say whether the text has one, so that a rule has as many tokens as its text.
 #[derive(Drop)]
 pub enum ResolvedRule {
     /// Changes nothing.
@@ -23,11 +23,11 @@ pub enum ResolvedRule {
         guard: Boxed<ResolvedTerm>,
         then_rule: Boxed<ResolvedRule>,
         else_rule: Boxed<ResolvedRule>,
+        has_else: bool,
     },
     /// All its parts at once.
     Par(Items<ResolvedRule>),
-    /// The body at once for each element of the domain at which the guard holds. `guarded` says whether the text has a
-    /// guard.
+    /// The body at once for each element of the domain at which the guard holds.
     Forall {
         binder: u32,
         domain: u32,
@@ -42,6 +42,7 @@ pub enum ResolvedRule {
         guard: Boxed<ResolvedTerm>,
         body: Boxed<ResolvedRule>,
         else_rule: Boxed<ResolvedRule>,
+        has_else: bool,
     },
     /// The body, in which the binder is the value that the term has before the step.
     Let {

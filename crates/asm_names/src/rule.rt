@@ -1,10 +1,13 @@
 //! Rules.
 
-ghost use Rattle.std.specs.Prelude.{◌≡◌, IfOk};
+ghost use Rattle.std.specs.Prelude.{◌≡◌, Some, length, map, IfOk};
 ghost use Rattle.asm_names.specs.declared.fault.NameFault.TheVariants as causes;
+ghost use Rattle.asm_names.specs.declared.sort.Need.TheVariants as needs;
 ghost use Rattle.asm_names.specs.Faults.{Judges, fault};
-ghost use Rattle.asm_names.specs.RuleFaults.{is_fixed};
+ghost use Rattle.asm_names.specs.Meanings.{meaning_of, number_of};
+ghost use Rattle.asm_names.specs.RuleFaults.{is_fixed, target_faults, target_need, target_sorts};
 ghost use Rattle.asm_names.specs.Rules as spec;
+ghost use Rattle.asm_names.specs.Table.{scope};
 
 use crate::fault::{NameEnd, NameFault};
 use crate::resolved_rule::{ResolvedRule, ResolvedRules};
@@ -28,6 +31,39 @@ fn check_kind(kind: Kind, token: u32) -> Result<(), NameEnd>
             token,
         }),
     }
+}
+
+// The number of an updated function with so many terms behind its name, the sorts of its arguments, and that of its values.
+#[tactic(auto, using(crate::proofs::Firsts::apply_rules), unfolding(crate::specs::Faults::first_end))]
+fn find_target<'a>(
+    table: &'a Table,
+    name: &Name,
+    count: usize,
+    token: u32,
+) -> Result<(u32, &'a [Sort], Sort), NameEnd>
+    ensures { Judges (target_faults (meaning_of (scope table.now) name.now) count token) result
+        (λ target. (number_of (meaning_of (scope table.now) name.now) ≡ target.0)
+        × (target_sorts (meaning_of (scope table.now) name.now) ≡ map Some target.1.now)
+        × (target_need (meaning_of (scope table.now) name.now) ≡ needs.Only target.2)
+        × (length target.1.now ≡ count)) }
+{
+    let Some(
+        Entry::Function {
+            number,
+            kind,
+            args,
+            values,
+        },
+    ) = table.find(name)
+    else {
+        return Err(NameEnd::Fault {
+            fault: NameFault::Unknown,
+            token,
+        });
+    };
+    check_count(args.len(), count, token)?;
+    check_kind(*kind, token)?;
+    Ok((*number, args.as_slice(), *values))
 }
 
 // The term `(0 = 0)`.
@@ -118,39 +154,13 @@ impl Walk {
         requires bound_room { self.old.binders + rule_layer_binders (Rule-F.Update name.now args.now value.now) < 2 ^ 32 }
         ensures { JudgesRuleLayer (Rule-F.Update name.now args.now value.now) self.old result self.new }
     {
-        let token = self.place;
-        let Some(
-            Entry::Function {
-                number,
-                kind,
-                args: sorts,
-                values,
-            },
-        ) = self.table.find(name)
-        else {
-            return Err(NameEnd::Fault {
-                fault: NameFault::Unknown,
-                token,
-            });
-        };
-        check_count(sorts.len(), args.len(), token)?;
-        check_kind(*kind, token)?;
+        let (fun, sorts, values) = find_target(&self.table, name, args.len(), self.place)?;
         self.place += 1;
-        let args = in_parentheses(
-            alloc,
-            &self.table,
-            &mut self.place,
-            sorts.as_slice(),
-            args.as_slice(),
-        )?;
+        let args = in_parentheses(alloc, &self.table, &mut self.place, sorts, args.as_slice())?;
         self.place += 1;
-        let need = Need::Only(*values);
+        let need = Need::Only(values);
         let value = boxed(alloc, &self.table, &mut self.place, value, need)?;
-        Ok(ResolvedRule::Update {
-            fun: *number,
-            args,
-            value,
-        })
+        Ok(ResolvedRule::Update { fun, args, value })
     }
 
     // The term behind `with`, if there is one.
@@ -243,12 +253,14 @@ impl Walk {
         let guard = self.term(alloc, guard, Need::Only(Sort::Truth))?;
         self.place += 1;
         let then_rule = self.boxed(alloc, then_rule)?;
+        let has_else = else_rule.is_some();
         let else_rule = self.else_part(alloc, else_rule)?;
         self.place += 1;
         Ok(ResolvedRule::If {
             guard,
             then_rule,
             else_rule,
+            has_else,
         })
     }
 
@@ -327,6 +339,7 @@ impl Walk {
         self.place += 1;
         let body = self.boxed(alloc, body)?;
         self.table.pop();
+        let has_else = else_rule.is_some();
         let else_rule = self.else_part(alloc, else_rule)?;
         self.place += 1;
         Ok(ResolvedRule::Choose {
@@ -335,6 +348,7 @@ impl Walk {
             guard,
             body,
             else_rule,
+            has_else,
         })
     }
 

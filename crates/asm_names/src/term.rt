@@ -1,6 +1,6 @@
 //! Terms. `place` is the number of the next token.
 
-ghost use Rattle.std.specs.Prelude.{◌≡◌, [], ℕ, ◌+◌, ◌^◌, ◌<◌, length, map, Some};
+ghost use Rattle.std.specs.Prelude.{◌≡◌, [], ℕ, ◌+◌, ◌++◌, ◌^◌, ◌<◌, length, map, slice_get, Some};
 ghost use Rattle.std.specs.Option.{option_copied, option_map};
 ghost use Rattle.asm_tree.specs.declared.term.Term.{Term, Term-F};
 ghost use Rattle.asm_tree.specs.declared.term.Term.TheFolds.{map-Term};
@@ -96,6 +96,16 @@ fn number(place: &mut u32, value: u32, need: Need) -> Result<ResolvedTerm, NameE
     Ok(ResolvedTerm::Number(i64::from(value)))
 }
 
+// What the place of the argument at this index needs.
+fn need_at(args: &[Sort], index: usize) -> Need
+    ensures { result ≡ sorts.same_as (slice_get args.now index) }
+{
+    match args.get(index) {
+        None => Need::Anything,
+        Some(sort) => Need::Only(*sort),
+    }
+}
+
 // One term after another, each with the sort that its place needs.
 #[cycle(term)]
 #[tactic(auto, using(crate::proofs::Firsts::first_rules))]
@@ -113,7 +123,7 @@ fn separated(
 {
     let mut resolved = Items::new(alloc);
     for (i, arg) in args.iter().enumerate() {
-        resolved.push(term(alloc, table, place, arg, Need::Only(sorts[i]))?)?;
+        resolved.push(term(alloc, table, place, arg, need_at(sorts, i))?)?;
         *place += 1;
     }
     Ok(resolved)
@@ -141,6 +151,25 @@ pub(crate) fn in_parentheses(
     separated(alloc, table, place, sorts, args)
 }
 
+// A name of this arity and sort, at its own token.
+#[tactic(auto, using(crate::proofs::Firsts::first_rules))]
+fn pass_name(
+    place: &mut u32,
+    arity: usize,
+    count: usize,
+    sort: Option<Sort>,
+    need: Need,
+) -> Result<(), NameEnd>
+    requires { place.old + 1 < 2 ^ 32 }
+    ensures { Judges (count_faults (Some arity) count place.old ++ fault causes.Sort place.old (sorts.refuses need sort)) result
+        (λ _. place.new ≡ place.old + 1) }
+{
+    check_count(arity, count, *place)?;
+    check_sort(need, sort, *place)?;
+    *place += 1;
+    Ok(())
+}
+
 // A name with the terms behind it.
 #[cycle(term)]
 #[tactic(auto, using(crate::proofs::Firsts::apply_rules), unfolding(crate::specs::Faults::first_end))]
@@ -155,40 +184,29 @@ fn apply(
     requires { place.old + layer_tokens (Term-F.Apply name.now args.now) < 2 ^ 32 }
     ensures { JudgesLayer (scope table.now) (Term-F.Apply name.now args.now) need place.old result place.new }
 {
-    let token = *place;
-    let unknown = NameEnd::Fault {
-        fault: NameFault::Unknown,
-        token,
-    };
-    let Some(entry) = table.find(name) else {
-        return Err(unknown);
-    };
-    match entry {
-        Entry::Domain { .. } => Err(unknown),
-        Entry::Enumerator { domain, index } => {
-            check_count(0, args.len(), token)?;
-            check_sort(need, Some(Sort::List(*domain)), token)?;
-            *place += 1;
+    match table.find(name) {
+        None | Some(Entry::Domain { .. }) => Err(NameEnd::Fault {
+            fault: NameFault::Unknown,
+            token: *place,
+        }),
+        Some(Entry::Enumerator { domain, index }) => {
+            pass_name(place, 0, args.len(), Some(Sort::List(*domain)), need)?;
             Ok(ResolvedTerm::Number(i64::from(*index)))
         }
-        Entry::Function {
-            number,
-            args: sorts,
-            values,
-            ..
-        } => {
-            check_count(sorts.len(), args.len(), token)?;
-            check_sort(need, Some(*values), token)?;
-            *place += 1;
-            Ok(ResolvedTerm::Read {
-                fun: *number,
-                args: in_parentheses(alloc, table, place, sorts.as_slice(), args.as_slice())?,
-            })
+        Some(
+            Entry::Function {
+                number,
+                args: sorts,
+                values,
+                ..
+            },
+        ) => {
+            pass_name(place, sorts.len(), args.len(), Some(*values), need)?;
+            let args = in_parentheses(alloc, table, place, sorts.as_slice(), args.as_slice())?;
+            Ok(ResolvedTerm::Read { fun: *number, args })
         }
-        Entry::Binder { number, sort } => {
-            check_count(0, args.len(), token)?;
-            check_sort(need, *sort, token)?;
-            *place += 1;
+        Some(Entry::Binder { number, sort }) => {
+            pass_name(place, 0, args.len(), *sort, need)?;
             Ok(ResolvedTerm::Var(*number))
         }
     }

@@ -9,9 +9,11 @@ use std::alloc::{AllocError, Global};
 
 mod assembly_jobs;
 mod check_jobs;
+mod grammar_rows;
 mod hart_jobs;
 mod images;
 mod jobs;
+mod name_rows;
 mod streams;
 
 /// The job of the first session.

@@ -1,4 +1,5 @@
 use Rattle.std.proofs.Common.{◌≡◌, arith, sym, ◌∙◌, map}
+use Rattle.std.proofs.lemmas.Grind.{common_steps}
 use Rattle.asm_tree.specs.declared.term.Term.{Term-F}
 use Rattle.asm_tree.specs.declared.term.Term.TheVariants as terms
 use Rattle.asm_names.specs.Table.{scope}
@@ -7,7 +8,6 @@ use Rattle.asm_names.specs.Judging.{layer_tokens}
 use Rattle.asm_names.proofs.Levels.{tokens_of, whole}
 use Rattle.asm_names.proofs.Firsts.{stopped}
 use Rattle.asm_names.proofs.Separated.{parted-in_parentheses, parted-drop, parted-next, each_faults-next}
-use Rattle.asm_names.specs.declared.sort.Sort.TheVariants as sorts
 use Rattle.asm_names.proofs.term.+term.Goals as goal
 
 pub term-number-requires : goal.term-number-requires
@@ -82,6 +82,12 @@ separated-term-requires t c =
 
 pub separated-returns-in_err-term : goal.separated-returns-in_err-term
 separated-returns-in_err-term t c =
-    let next = each_faults-next c.loop-i.i c.args.args.now c.index-args-i.result c.loop-i-test.true c.index-args-i.is (scope c.args.table.now) c.args.sorts.now sorts.Int c.loop-i.place (omega arith) in
+    let next = each_faults-next c.loop-i.i c.args.args.now c.index-args-i.result c.loop-i-test.true c.index-args-i.is (scope c.args.table.now) c.args.sorts.now c.need_at.result c.loop-i.place (omega arith) c.need_at.ensures in
     let found = stopped _ _ _ _ (c.loop-i.invariant.rest ∙ next) c.in_err-term.ensures in
     grind (arith, found)
+
+pub separated-loop-i-preserved : goal.separated-loop-i-preserved
+separated-loop-i-preserved t c =
+    let next = each_faults-next c.loop-i.i c.args.args.now c.index-args-i.result c.loop-i-test.true c.index-args-i.is (scope c.args.table.now) c.args.sorts.now c.need_at.result c.loop-i.place (omega arith) c.need_at.ensures in
+    let rest = c.loop-i.invariant.rest ∙ next in
+    record { rest = grind (arith, common_steps, rest); done = grind (arith, common_steps); place = grind (arith, common_steps) }
