@@ -1,22 +1,11 @@
 #!/bin/sh
 # Times `stab asm` and `stab list`: words of all kinds of instructions, twice as many each time up to 65,536, and a text of labels
 # with a branch to each. Prints the best of ten runs in seconds and as a rate; the start of the program is part of each time.
-top="$(cd "$(dirname "$0")/.." && pwd)"
-"$top/stab" compile <"$top/examples/seven.job" >/dev/null || exit 1
-program="$top/crates/stab_cli/out/stab_cli"
-work="$(mktemp -d)"
-trap 'rm -rf "$work"' EXIT
+. "$(dirname "$0")/common.sh"
 
-# the best of ten runs of a mode on a job: mode, job, words
+# the best of ten runs of a mode on a job: mode, job, words, what it is
 best_of() {
-    best=""
-    for run in 1 2 3 4 5 6 7 8 9 10; do
-        from="$(date +%s%N)"
-        "$program" "$1" <"$2" >/dev/null || exit 1
-        to="$(date +%s%N)"
-        best="$(printf '%s\n%s\n' "$best" "$((to - from))" | grep . | sort -n | head -n 1)"
-    done
-    awk -v what="$4" -v words="$3" -v best="$best" 'BEGIN { printf "%s: %d words, best of ten runs %.3f s, %.1f million words a second\n", what, words, best / 1e9, words / best * 1e3 }'
+    best_time "$1" "$2" | awk -v what="$4" -v words="$3" '{ printf "%s: %d words, best of ten runs %.3f s, %.1f million words a second\n", what, words, $1 / 1e9, words / $1 * 1e3 }'
 }
 
 for words in 16384 32768 65536; do

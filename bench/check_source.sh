@@ -1,21 +1,11 @@
 #!/bin/sh
 # Times `stab check` on sources of a quarter, a half and a whole megabyte: one of domains, whose canonical text is written, and one of rules of all
 # kinds, whose names are judged. Prints the best of ten runs in seconds; the start of the program is part of each time.
-top="$(cd "$(dirname "$0")/.." && pwd)"
-"$top/stab" compile <"$top/examples/seven.job" >/dev/null || exit 1
-program="$top/crates/stab_cli/out/stab_cli"
-work="$(mktemp -d)"
-trap 'rm -rf "$work"' EXIT
+. "$(dirname "$0")/common.sh"
 
 # the best of ten runs on a job: job, what it is
 best_of() {
-    best=""
-    for run in 1 2 3 4 5 6 7 8 9 10; do
-        from="$(date +%s%N)"
-        "$program" check <"$1" >"$work/text"
-        to="$(date +%s%N)"
-        best="$(printf '%s\n%s\n' "$best" "$((to - from))" | grep . | sort -n | head -n 1)"
-    done
+    best="$(best_time check "$1")"
     awk -v what="$2" -v size="$(wc -c <"$1")" -v best="$best" -v says="$(head -n 1 "$work/text")" 'BEGIN { printf "%s: %d bytes, best of ten runs %.3f s, %s\n", what, size, best / 1e9, says }'
 }
 
@@ -36,7 +26,7 @@ for size in 262144 524288 1048576; do
         kind[1] = "if ((c = a) and not (x < 3)) then f(x, 2) := cond((c != b), x, max(x, 7)) else skip end ;\n"
         kind[2] = "forall i in D with (i != x) do f(i, x) := i end ;\n"
         kind[3] = "choose k in C with (k = c) do c := k else c := a end ;\n"
-        kind[4] = "let v = (x - 1) in if (v >= 0) then x := v end end ;\n"
+        kind[4] = "let v = (x - 1) in if (v >= 0) then x := max(v, 0) end end ;\n"
         for (i = 0; size + 120 < limit; i++) { line = kind[i % 5]; printf "%s", line; size += length(line) }
         printf "skip end\n"
     }' >"$work/rules.job"

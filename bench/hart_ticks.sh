@@ -1,11 +1,7 @@
 #!/bin/sh
 # Times `stab exec` on 10,000,000 ticks of a loop with loads, stores and branches: the time of the whole run of the program,
 # its start included. Prints the best of ten runs in seconds and as a rate, and the same for half as many ticks.
-top="$(cd "$(dirname "$0")/.." && pwd)"
-"$top/stab" compile <"$top/examples/seven.job" >/dev/null || exit 1
-program="$top/crates/stab_cli/out/stab_cli"
-work="$(mktemp -d)"
-trap 'rm -rf "$work"' EXIT
+. "$(dirname "$0")/common.sh"
 
 # Sums and shifts of a counter in RAM, by way of a word, a half and a byte, with one branch that is taken every second time.
 cat >"$work/loop.asm" <<'END'

@@ -1,11 +1,7 @@
 #!/bin/sh
 # Times `stab compile` on the largest plain jobs: a megabyte of domains, and a megabyte of comment around 64 functions.
 # Prints the best of ten runs in seconds, and the most memory in kilobytes (GNU time).
-top="$(cd "$(dirname "$0")/.." && pwd)"
-"$top/stab" compile <"$top/examples/seven.job" >/dev/null || exit 1
-program="$top/crates/stab_cli/out/stab_cli"
-work="$(mktemp -d)"
-trap 'rm -rf "$work"' EXIT
+. "$(dirname "$0")/common.sh"
 
 awk 'BEGIN {
     text = "%source\nmachine m\n"

@@ -58,18 +58,12 @@ same-wants (Some s) = refl
 pub met : (need : Need) (o : Option Sort) (f g : Form) → refuses need o ≡ false → formed o ≡ Some f → wants need ≡ Some g → formed o ≡ Some g
 met need None f g h is w = cc
 met needs.Anything (Some s) f g h is w = cc
-met needs.NotTruth (Some sorts.Int) f g h is w = w
 met needs.NotTruth (Some sorts.Truth) f g h is w = cc
-met needs.NotTruth (Some (sorts.List d)) f g h is w = w
-met (needs.Only sorts.Int) (Some sorts.Int) f g h is w = w
-met (needs.Only sorts.Int) (Some sorts.Truth) f g h is w = cc
-met (needs.Only sorts.Int) (Some (sorts.List d)) f g h is w = w
-met (needs.Only sorts.Truth) (Some sorts.Int) f g h is w = cc
+met needs.NotTruth (Some _) f g h is w = w
 met (needs.Only sorts.Truth) (Some sorts.Truth) f g h is w = w
-met (needs.Only sorts.Truth) (Some (sorts.List d)) f g h is w = cc
-met (needs.Only (sorts.List d)) (Some sorts.Int) f g h is w = w
-met (needs.Only (sorts.List d)) (Some sorts.Truth) f g h is w = cc
-met (needs.Only (sorts.List d)) (Some (sorts.List e)) f g h is w = w
+met (needs.Only sorts.Truth) (Some _) f g h is w = cc
+met (needs.Only _) (Some sorts.Truth) f g h is w = cc
+met (needs.Only _) (Some _) f g h is w = w
 
 -- ---- names
 

@@ -18,3 +18,4 @@ pub mod WellFormedTerms
 pub mod WellFormedRules
 pub mod WellFormedDeclarations
 pub mod WellFormedPrograms
+pub mod Absent

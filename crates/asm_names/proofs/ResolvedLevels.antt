@@ -2,8 +2,8 @@
 use Rattle.std.proofs.Common.{◌≡◌, ℕ, Bool, List, Option, sym, ap, ◌∙◌}
 use Rattle.asm_names.specs.declared.program.Fun.{Fun}
 use Rattle.asm_names.specs.declared.program.Resolved.{Resolved}
-use Rattle.asm_names.specs.declared.resolved_term.ResolvedTerm.{ResolvedTerm, ResolvedTerm-F, roll-ResolvedTerm, map-ResolvedTerm, fold-roll-ResolvedTerm}
-use Rattle.asm_names.specs.declared.resolved_rule.ResolvedRule.{ResolvedRule, ResolvedRule-F, roll-ResolvedRule, map-ResolvedRule, fold-roll-ResolvedRule, para-roll-ResolvedRule}
+use Rattle.asm_names.specs.declared.resolved_term.ResolvedTerm.{ResolvedTerm, ResolvedTerm-F, roll-ResolvedTerm, out-ResolvedTerm, out-roll-ResolvedTerm, map-ResolvedTerm, fold-roll-ResolvedTerm}
+use Rattle.asm_names.specs.declared.resolved_rule.ResolvedRule.{ResolvedRule, ResolvedRule-F, roll-ResolvedRule, out-ResolvedRule, out-roll-ResolvedRule, map-ResolvedRule, fold-roll-ResolvedRule, para-roll-ResolvedRule}
 use Rattle.asm_names.specs.ResolvedPlaces.{resolved_term_tokens, resolved_term_tokens_by, resolved_rule_tokens, resolved_rule_tokens_by, resolved_rule_binders, resolved_rule_binders_by}
 use Rattle.asm_names.specs.WellFormed.{Sort, Bound, sort_of, sort_by, RulePart, rule_named, named_by}
 
@@ -15,6 +15,9 @@ module _ (x : ResolvedTerm-F ResolvedTerm) (t : ResolvedTerm) (e : roll-Resolved
   pub sort_at : (funs : List Fun) (bound : Bound) → sort_of funs bound t ≡ sort_by funs bound (map-ResolvedTerm ResolvedTerm (Option Sort) (sort_of funs bound) x)
   unfolding sort_of
   sort_at funs bound = ap (sort_of funs bound) (sym e) ∙ fold-roll-ResolvedTerm (Option Sort) (sort_by funs bound) x
+
+  pub term_out_of : out-ResolvedTerm t ≡ x
+  term_out_of = ap out-ResolvedTerm (sym e) ∙ out-roll-ResolvedTerm x
 
 -- a rule with whether it is well formed
 abbrev pub named : Resolved → ResolvedRule → RulePart
@@ -33,3 +36,6 @@ module _ (x : ResolvedRule-F ResolvedRule) (r : ResolvedRule) (e : roll-Resolved
   unfolding rule_named
   named_at program bound before =
       ap (λ u. rule_named program u bound before) (sym e) ∙ ap (λ f. f bound before) (para-roll-ResolvedRule (Bound → ℕ → Bool) (named_by program) x)
+
+  pub rule_out_of : out-ResolvedRule r ≡ x
+  rule_out_of = ap out-ResolvedRule (sym e) ∙ out-roll-ResolvedRule x

@@ -39,29 +39,35 @@ placed all front back x n split count = rw (split, sym count) (at_end front back
 not_below : (a b : ℤ) → int_lt a b ≡ false → b ≤ℤ a
 not_below a b h = omega (arith, ints, h)
 
-range_fits : (lo hi : ℤ) → int_lt hi lo ≡ false → (nat_lt 65536 (range_size lo hi) || (is_far lo || is_far hi)) ≡ false → IsDomain (record { size = range_size lo hi; lo = lo; items = [] })
-range_fits lo hi full near =
-    let p = or_parts (nat_lt 65536 (range_size lo hi)) (is_far lo || is_far hi) near in
-    let q = or_parts (is_far lo) (is_far hi) p.1 in
-    let low = or_parts (int_lt lo (negsuc 1048575)) (int_lt (pos 1048576) lo) q.0 in
+range_fits : (d : Values) (hi : ℤ) → d.size ≡ range_size d.lo hi → d.items ≡ [] → int_lt hi d.lo ≡ false → (nat_lt 65536 (range_size d.lo hi) || (is_far d.lo || is_far hi)) ≡ false → IsDomain d
+range_fits d hi is empty full near =
+    let p = or_parts (nat_lt 65536 (range_size d.lo hi)) (is_far d.lo || is_far hi) near in
+    let q = or_parts (is_far d.lo) (is_far hi) p.1 in
+    let low = or_parts (int_lt d.lo (negsuc 1048575)) (int_lt (pos 1048576) d.lo) q.0 in
     let high = or_parts (int_lt hi (negsuc 1048575)) (int_lt (pos 1048576) hi) q.1 in
-    let size : range_size lo hi ≡ nat_abs (hi -ℤ lo) + 1 = rw full refl in
-    let order : lo ≤ℤ hi = not_below hi lo full in
+    let size : d.size ≡ nat_abs (hi -ℤ d.lo) + 1 = is ∙ rw full refl in
+    let order : d.lo ≤ℤ hi = not_below hi d.lo full in
     let below : hi ≤ℤ pos 1048576 = not_below (pos 1048576) hi high.1 in
     record {
       some = omega (arith, size);
-      few = ltb-false 65536 (range_size lo hi) p.0;
-      low = not_below lo (negsuc 1048575) low.0;
+      few = omega (arith, is, ltb-false 65536 (range_size d.lo hi) p.0);
+      low = not_below d.lo (negsuc 1048575) low.0;
       high = rw size (omega (arith, ints, order, below));
-      names = inl refl;
+      names = inl empty;
     }
 
 some_items : (ws : List (List ℕ)) → not (is_empty ws) ≡ true → 1 ≤ length ws
 some_items [] h = cc
 some_items (w ∷ ws) h = omega arith
 
-list_fits : (ws : List (List ℕ)) → 1 ≤ length ws → length ws ≤ 65536 → IsDomain (record { size = length ws; lo = pos 0; items = ws })
-list_fits ws some few = record { some = some; few = few; low = omega (arith, ints); high = omega (arith, ints, few); names = inr (refl, refl) }
+list_fits : (d : Values) → length d.items ≡ d.size → d.lo ≡ pos 0 → 1 ≤ length d.items → length d.items ≤ 65536 → IsDomain d
+list_fits d count zero_low some few = record {
+  some = omega (arith, count, some);
+  few = omega (arith, count, few);
+  low = rw zero_low (omega (arith, ints));
+  high = rw zero_low (omega (arith, ints, count, few));
+  names = inr (count, zero_low);
+}
 
 module _ (domains : List Values) (funs : List Fun) where
   abbrev IsKnown : Scope → Type 0
@@ -153,21 +159,20 @@ module _ (domains : List Values) (funs : List Fun) where
   declaration names (decls.Range w lo hi) before after first last at known here fits h =
       let p = parts_clean _ _ h in
       let q = parts_clean _ _ p.1 in
-      let domain = range_fits lo hi (unmet causes.Empty (at + 1) _ q.0) (unmet causes.TooLarge (at + 1) _ q.1) in
       record {
-        domains_fit = (domain, tt);
+        domains_fit = (range_fits _ hi refl refl (unmet causes.Empty (at + 1) _ q.0) (unmet causes.TooLarge (at + 1) _ q.1), tt);
         funs_fit = tt;
-        all_known = (record { entry = record { size = range_size lo hi; lo = lo; items = [] }; there = placed domains before after _ _ here.domains_split here.domains_count; count = refl; things = refl }, tt);
+        all_known = (record { entry = _; there = placed domains before after _ _ here.domains_split here.domains_count; count = refl; things = refl }, tt);
       }
   declaration names (decls.Names w ws) before after first last at known here fits h =
       let p = parts_clean _ _ h in
       let q = parts_clean _ _ p.1 in
       let few = ltb-false 65536 (length ws) (unmet causes.TooLarge (at + 1) _ q.0) in
       record {
-        domains_fit = (list_fits ws (some_items ws fits) few, tt);
+        domains_fit = (list_fits _ refl refl (some_items ws fits) few, tt);
         funs_fit = tt;
         all_known = (
-          record { entry = record { size = length ws; lo = pos 0; items = ws }; there = placed domains before after _ _ here.domains_split here.domains_count; count = refl; things = refl },
+          record { entry = _; there = placed domains before after _ _ here.domains_split here.domains_count; count = refl; things = refl },
           all_items_known (domains_in names) ws few,
         );
       }

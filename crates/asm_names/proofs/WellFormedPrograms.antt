@@ -1,5 +1,5 @@
 -- A program without faults is well formed in numbers.
-use Rattle.std.proofs.Common.{◌≡◌, ℕ, true, [], MatchOption, Option, Some, None, refl, sym, ap, ◌∙◌, subst, arith}
+use Rattle.std.proofs.Common.{◌≡◌, ℕ, true, [], length, MatchOption, Option, Some, None, refl, sym, ap, ◌∙◌, subst, arith}
 use Rattle.std.specs.Option.{option_map}
 use Rattle.asm_tree.specs.Programs.{Parts, IsProgram, IsLegalWithin}
 use Rattle.asm_tree.specs.declared.term.Term.{Term}
@@ -24,14 +24,14 @@ well_formed parts r program h is =
     let names = names_of parts in
     let done = declarations (resolved_domains parts.decls) (resolved_funs [] parts.decls) parts.decls [] [] [] 3 tt refl refl refl refl program.decls p.0 in
     let known : AllKnown r.domains r.funs [] names = rw (is.domains, is.funs) done.all_known in
-    let rule = (rule_judged r parts.rule names _ 0 q.1).1 in
+    let rule = rule_judged parts.rule names _ 0 q.1 in
     record {
       domains = rw is.domains done.domains_fit;
       funs = rw (is.domains, is.funs) done.funs_fit;
       legal = subst (λ o. MatchOption o (Unit {0}) (λ t. is_truth (sort_of r.funs [] t) ≡ true)) (sym is.legal) (by names known parts.legal _ program.legal q.0);
-      binders = is.binders ∙ (sym rule.binders_kept ∙ ap resolved_rule_binders (sym is.rule));
+      binders = is.binders ∙ (sym rule.1 ∙ ap resolved_rule_binders (sym is.rule));
       intervals = r.one_interval_each;
-      rule = ap (λ u. rule_named r u [] 0) is.rule ∙ rule.holds [] known tt (omega (arith, is.binders)) program.rule.fits;
+      rule = ap (λ u. rule_named r u [] 0) is.rule ∙ rule.2 r [] known tt (omega (arith, is.binders)) program.rule.fits;
     }
   where
     by : (names : Scope) → AllKnown r.domains r.funs [] names → (legal : Option Term) (at : ℕ) → IsLegalWithin 48 legal → legal_faults names legal at ≡ []

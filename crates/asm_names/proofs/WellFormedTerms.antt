@@ -149,7 +149,10 @@ module _ (names : Scope) (domains : List Values) (funs : List Fun) (bound : Boun
         wanted = wanted;
         sorted = λ all fits.
             let f = known all in
-            (thing, (f.things, form_at x _ (resolved_terms.rolls-Read _ _) funs bound ∙ rw (f.there) (read f.entry _ (all_judged.sorted all fits f.arguments many) (f.count ∙ (many ∙ sym (length-map (map (resolved_term names) ts) (sort_of funs bound) ∙ length-map ts (resolved_term names)))))));
+            let forms = map (sort_of funs bound) (map (resolved_term names) ts) in
+            let as_many : length forms ≡ length ts = length-map (map (resolved_term names) ts) (sort_of funs bound) ∙ length-map ts (resolved_term names) in
+            let reads = read f.entry forms (all_judged.sorted all fits f.arguments many) (f.count ∙ (many ∙ sym as_many)) in
+            (thing, (f.things, form_at x _ (resolved_terms.rolls-Read _ _) funs bound ∙ rw f.there reads));
       }
   applied (Some (Binder n s)) ts need at known parts count wanted inner =
       let x = ResolvedTerm-F.Var n in

@@ -1,7 +1,7 @@
 -- What the resolution of names makes sure of. Every number names something that is declared, functions have as many
 -- arguments as are given, sorts agree as far as truth goes, binders are numbered in the order of the text, and static
 -- tables have as many values as their arguments have tuples.
-use Rattle.std.specs.Prelude.{◌≡◌, ℕ, ◌+◌, ◌*◌, ◌<◌, ◌≤◌, ℤ, pos, negsuc, ◌+ℤ◌, ◌≤ℤ◌, nat_abs, Bool, true, false, not, ◌&&◌, ◌==◌, nat_eq, nat_le, nat_lt, List, [], ◌∷◌, map, length, slice_get, Option, Some, None, MatchOption, ◌⊎◌}
+use Rattle.std.specs.Prelude.{◌≡◌, ℕ, ◌+◌, ◌*◌, ◌<◌, ◌≤◌, ℤ, pos, negsuc, ◌+ℤ◌, ◌≤ℤ◌, nat_abs, Bool, true, false, not, ◌&&◌, ◌||◌, ◌==◌, nat_eq, nat_le, nat_lt, List, [], ◌∷◌, map, length, slice_get, Option, Some, None, MatchOption, ◌⊎◌}
 use Rattle.std.specs.List.{list_all, list_any, AllByRecursion}
 use Rattle.asm_tree.specs.declared.decl.Kind.{Kind}
 use Rattle.asm_tree.specs.declared.decl.Kind.TheVariants as kinds
@@ -10,9 +10,9 @@ use Rattle.asm_tree.specs.declared.term.Op.TheVariants as ops
 use Rattle.asm_names.specs.declared.program.Domain.{Domain}
 use Rattle.asm_names.specs.declared.program.Fun.{Fun}
 use Rattle.asm_names.specs.declared.program.Resolved.{Resolved}
-use Rattle.asm_names.specs.declared.resolved_term.ResolvedTerm.{ResolvedTerm, ResolvedTerm-F}
+use Rattle.asm_names.specs.declared.resolved_term.ResolvedTerm.{ResolvedTerm, ResolvedTerm-F, out-ResolvedTerm}
 use Rattle.asm_names.specs.declared.resolved_term.ResolvedTerm.TheFolds.{fold-ResolvedTerm}
-use Rattle.asm_names.specs.declared.resolved_rule.ResolvedRule.{ResolvedRule, ResolvedRule-F}
+use Rattle.asm_names.specs.declared.resolved_rule.ResolvedRule.{ResolvedRule, ResolvedRule-F, out-ResolvedRule}
 use Rattle.asm_names.specs.declared.resolved_rule.ResolvedRule.TheFolds.{para-ResolvedRule}
 use Rattle.asm_names.specs.ResolvedPlaces.{resolved_rule_binders}
 
@@ -105,6 +105,29 @@ abbrev pub may_be_updated : Option Fun → Bool
 may_be_updated None = false
 may_be_updated (Some fun) = is_changing fun.kind
 
+-- whether a term is the number 0
+abbrev pub is_zero_by : ResolvedTerm-F ResolvedTerm → Bool
+is_zero_by (ResolvedTerm-F.Number (pos n)) = n == 0
+is_zero_by _ = false
+
+-- whether a term is `(0 = 0)`
+abbrev pub is_always_by : ResolvedTerm-F ResolvedTerm → Bool
+is_always_by (ResolvedTerm-F.Binary ops.Eq left right) = is_zero_by (out-ResolvedTerm left) && is_zero_by (out-ResolvedTerm right)
+is_always_by _ = false
+
+-- whether a guard is `(0 = 0)` where the text has none
+abbrev pub guard_stands : Bool → ResolvedTerm → Bool
+guard_stands guarded guard = guarded || is_always_by (out-ResolvedTerm guard)
+
+-- whether a rule is `skip`
+abbrev pub is_skip_by : ResolvedRule-F ResolvedRule → Bool
+is_skip_by ResolvedRule-F.Skip = true
+is_skip_by _ = false
+
+-- whether the rule behind `else` is `skip` where the text has none
+abbrev pub else_stands : Bool → ResolvedRule → Bool
+else_stands has_else else_rule = has_else || is_skip_by (out-ResolvedRule else_rule)
+
 -- whether a binder's number is that of the binders before it in the text, below that of all binders, and not in scope
 abbrev pub new_binder : Resolved → Bound → ℕ → ℕ → Bool
 new_binder program bound before binder = nat_eq binder before && (nat_lt binder program.binders && not (in_scope bound binder))
@@ -130,21 +153,24 @@ named_by program (ResolvedRule-F.Update fun args value) bound before =
     && (is_thing (read_sort (slice_get program.funs fun) (map (sort_of program.funs bound) args))
     && is_thing (sort_of program.funs bound value))
 named_by program (ResolvedRule-F.If guard then_rule else_rule has_else) bound before =
-    is_truth (sort_of program.funs bound guard)
+    else_stands has_else else_rule.0
+    && (is_truth (sort_of program.funs bound guard)
     && (then_rule.1 bound before
-    && else_rule.1 bound (before + resolved_rule_binders then_rule.0))
+    && else_rule.1 bound (before + resolved_rule_binders then_rule.0)))
 named_by program (ResolvedRule-F.Par rules) bound before = each_named rules bound before
 named_by program (ResolvedRule-F.Forall binder domain guard guarded body) bound before =
-    new_binder program bound before binder
+    guard_stands guarded guard
+    && (new_binder program bound before binder
     && (has_domain program domain
     && (is_truth (sort_of program.funs (binder ∷ bound) guard)
-    && body.1 (binder ∷ bound) (before + 1)))
+    && body.1 (binder ∷ bound) (before + 1))))
 named_by program (ResolvedRule-F.Choose binder domain guard body else_rule has_else) bound before =
-    new_binder program bound before binder
+    else_stands has_else else_rule.0
+    && (new_binder program bound before binder
     && (has_domain program domain
     && (is_truth (sort_of program.funs (binder ∷ bound) guard)
     && (body.1 (binder ∷ bound) (before + 1)
-    && else_rule.1 bound (before + 1 + resolved_rule_binders body.0))))
+    && else_rule.1 bound (before + 1 + resolved_rule_binders body.0)))))
 named_by program (ResolvedRule-F.Let binder value body) bound before =
     new_binder program bound before binder
     && (is_thing (sort_of program.funs bound value)

@@ -1,3 +1,4 @@
+pub mod ModelLines
 pub mod Parts
 pub mod Places
 pub mod Sections

@@ -48,9 +48,17 @@ unfoldable pub run_lines : List (List ℕ) → Option (List (List ℕ))
 run_lines [] = Some []
 run_lines (line ∷ rest) = if bytes_eq line (codes "%run") && is_empty (from_header rest) then Some rest else None
 
+-- the section of this header, and the lines of the section `%run`, of a job that has these two in this order, or the first alone
+unfoldable pub section_and_run : List ℕ → List (List ℕ) → Option (Section × List (List ℕ))
+section_and_run header job =
+    option_and_then
+    (λ part. option_map (λ run. (record part { lines = body part.lines }, run)) (run_lines (from_header part.lines)))
+    (opened header job)
+
 -- the section `%rom` and the lines of the section `%run` of a job that has these, or `%rom` alone
 unfoldable pub exec_sections : List (List ℕ) → Option (Section × List (List ℕ))
-exec_sections job =
-    option_and_then
-    (λ rom. option_map (λ run. (record rom { lines = body rom.lines }, run)) (run_lines (from_header rom.lines)))
-    (opened (codes "%rom") job)
+exec_sections job = section_and_run (codes "%rom") job
+
+-- the section `%source` and the lines of the section `%run` of a job that has these, or `%source` alone
+unfoldable pub model_sections : List (List ℕ) → Option (Section × List (List ℕ))
+model_sections job = section_and_run (codes "%source") job

@@ -1,10 +1,12 @@
-//! The sections of a job's text for the modes on the bare hart, and the start that a job describes.
+//! The sections of a job's text, and what its section `%run` describes: the start of a bare hart, or the run of a
+//! model.
 //!
 //! A job is text of lines. A line whose first byte is `%` is a header; a section is the lines behind its header up to
 //! the next one. In `%rom` and `%run`, and before the first header, lines of blanks alone and lines whose first byte
-//! is `#` are passed over. `exec` takes `%rom` and may have `%run` behind it; `list` takes `%rom` alone; `asm` takes
-//! `%source` alone. A header is exactly the word, without blanks. Lines before the first header must all be passed
-//! over. With any other header, order or repetition, or a missing section, the job has another form.
+//! is `#` are passed over. `exec` takes `%rom` and may have `%run` behind it; `model` takes `%source` and may have
+//! `%run` behind it; `list` takes `%rom` alone; `check` and `asm` take `%source` alone. A header is exactly the word,
+//! without blanks. Lines before the first header must all be passed over. With any other header, order or repetition,
+//! or a missing section, the job has another form.
 //!
 //! The lines of `%run` for `exec`, read by their fields:
 //!
@@ -16,13 +18,22 @@
 //!
 //! Lines of `reg` and `ram` are applied in order, and a later one wins. Registers and RAM that none sets are 0. A job
 //! with any other line, or with a number out of range, has another form.
+//!
+//! The lines of `%run` for `model`:
+//!
+//! - `rounds N`, at most once: how many rounds run, decimal, from 1 to 1,000,000. Where none is said: 1.
+//! - `in H`: a reading, 1 to 8 hexadecimal digits. Readings are in the order of their lines.
+//!
+//! Here too a job with any other line, or with a number out of range, has another form.
 #![tactic(auto)]
 
+mod model_lines;
 mod section;
 mod setting;
 mod start;
 
-pub use section::{Part, exec_job, rom_job, source_job};
+pub use model_lines::{ModelRun, model_run};
+pub use section::{Part, exec_job, model_job, rom_job, source_job};
 pub use setting::{Setting, read_setting};
 pub use start::{Start, exec_start};
 

@@ -4,8 +4,8 @@ ghost use Rattle.std.specs.Prelude.{◌≡◌, ℕ, ◌+◌, ◌^◌, ◌<◌, �
 ghost use Rattle.std.specs.Option.{option_map};
 ghost use Rattle.text_core.specs.Lines.{lines};
 ghost use Rattle.job_text.specs.Parts.{IsInside, section_of};
-ghost use Rattle.job_text.specs.Places.{behind_header, behind_line, header_place};
-ghost use Rattle.job_text.specs.Sections.{all_passed, begins, body, exec_sections, from_header, is_empty, is_passed, only_section, opened, run_lines};
+ghost use Rattle.job_text.specs.Places.{behind_header, behind_line, header_place, section_text};
+ghost use Rattle.job_text.specs.Sections.{all_passed, begins, body, exec_sections, from_header, is_empty, is_passed, model_sections, only_section, opened, run_lines, section_and_run};
 
 use text_core::{begins, is_passed, next_line};
 
@@ -169,6 +169,34 @@ fn run_text(text: &[u8]) -> Option<&[u8]>
     }
 }
 
+/// The section of this header, and the bytes of the section `%run` behind it, which are none where the job has no such
+/// section.
+#[tactic(auto, unfolding(crate::specs::Sections::section_and_run))]
+fn section_and_run<'a>(bytes: &'a [u8], header: &[u8]) -> Option<(Part<'a>, &'a [u8])>
+    requires { length bytes.now ≤ 2 ^ 20 }
+    ensures value { option_map (λ job. (section_of job.0, lines job.1.now)) result ≡ section_and_run header.now (lines bytes.now) }
+    ensures text { IfSome result (λ job. job.0.text.now ≡ section_text bytes.now) }
+    ensures inside { IfSome result (λ job. IsInside (length bytes.now) job.0) }
+    ensures run { IfSome result (λ job. length job.1.now ≤ length bytes.now) }
+{
+    match opened(bytes, header) {
+        None => None,
+        Some(part) => {
+            let end = header_at(part.text);
+            match run_text(&part.text[end..]) {
+                None => None,
+                Some(run) => {
+                    let section = Part {
+                        text: &part.text[..end],
+                        first_line: part.first_line,
+                    };
+                    Some((section, run))
+                }
+            }
+        }
+    }
+}
+
 /// The section `%rom` of a job of at most 2^20 bytes, and the bytes of the section `%run` behind it, which are none
 /// where it has no such section. None exactly where the job has another form. Takes no memory.
 #[tactic(auto, unfolding(crate::specs::Sections::exec_sections))]
@@ -178,20 +206,18 @@ pub fn exec_job(bytes: &[u8]) -> Option<(Part, &[u8])>
     ensures rom { IfSome result (λ job. IsInside (length bytes.now) job.0) }
     ensures run { IfSome result (λ job. length job.1.now ≤ length bytes.now) }
 {
-    match opened(bytes, b"%rom") {
-        None => None,
-        Some(part) => {
-            let end = header_at(part.text);
-            match run_text(&part.text[end..]) {
-                None => None,
-                Some(run) => {
-                    let rom = Part {
-                        text: &part.text[..end],
-                        first_line: part.first_line,
-                    };
-                    Some((rom, run))
-                }
-            }
-        }
-    }
+    section_and_run(bytes, b"%rom")
+}
+
+/// The source of a job of at most 2^20 bytes, and the bytes of the section `%run` behind it, which are none where it has
+/// no such section. None exactly where the job has another form. Takes no memory.
+#[tactic(auto, unfolding(crate::specs::Sections::model_sections))]
+pub fn model_job(bytes: &[u8]) -> Option<(Part, &[u8])>
+    requires { length bytes.now ≤ 2 ^ 20 }
+    ensures value { option_map (λ job. (section_of job.0, lines job.1.now)) result ≡ model_sections (lines bytes.now) }
+    ensures text { IfSome result (λ job. job.0.text.now ≡ section_text bytes.now) }
+    ensures source { IfSome result (λ job. IsInside (length bytes.now) job.0) }
+    ensures run { IfSome result (λ job. length job.1.now ≤ length bytes.now) }
+{
+    section_and_run(bytes, b"%source")
 }

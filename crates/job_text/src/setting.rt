@@ -31,7 +31,7 @@ pub enum Setting {
 }
 
 /// The decimal number of a field, from 1 up to a limit.
-fn counted(limit: u64, field: &[u8]) -> Option<u64>
+pub(crate) fn counted(limit: u64, field: &[u8]) -> Option<u64>
     ensures value { result ≡ counted limit field.now }
     ensures some { IfSome result (λ n. 1 ≤ n) }
     ensures few { IfSome result (λ n. n ≤ limit) }

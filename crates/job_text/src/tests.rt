@@ -79,6 +79,82 @@ fn jobs_for_a_hart(rt: HostRuntime) {
 }
 
 #[test]
+fn jobs_of_a_model(rt: HostRuntime) {
+    for (text, want) in [
+        ("%source\na\n", Some(("a\n", 2, ""))),
+        (
+            "\r\n#\n%source\r\na % b\r\n %run\r\n\n%run\r\nrounds 2\r\n",
+            Some(("a % b\r\n %run\r\n\n", 4, "rounds 2\r\n")),
+        ),
+        ("%source\n\r\r\n%run", Some(("\r\r\n", 2, ""))),
+        ("%source\n%run\n#", Some(("", 2, "#"))),
+        ("%source", Some(("", 2, ""))),
+        ("", None),
+        ("a\n%source\n", None),
+        ("%run\n", None),
+        ("%run\n%source\n", None),
+        ("%source\n%run \n", None),
+        ("%source\na\r%run\n%rom\n", None),
+        ("%source\n%source\n", None),
+        ("%source\n%run\n%run\n", None),
+        ("%source\n%run\n%source\n", None),
+        ("%rom\n%run\n", None),
+    ] {
+        let found = model_job(job(&rt, text)).map(|(source, run)| (
+            source.text,
+            source.first_line,
+            run,
+        ));
+        let want = want.map(|(text, line, run)| (text.as_bytes(), line, run.as_bytes()));
+        assert_eq!(rt; found, want, "{text}");
+    }
+}
+
+#[test]
+fn lines_describe_a_run(rt: HostRuntime) -> Result<(), Fail> {
+    for (text, rounds, readings) in [
+        ("", 1, [].as_slice()),
+        ("# rounds 4\n \t\r\nrounds 7\r\n", 7, &[]),
+        ("rounds 1000000", 1_000_000, &[]),
+        (
+            "in 2\n\tin \t 1 \nrounds 1\nin ABCDef01",
+            1,
+            &[2, 1, 0xabcd_ef01],
+        ),
+    ] {
+        let Some(run) = model_run(rt.alloc(), text.as_bytes())? else {
+            assert!(rt; false, "{text}");
+            continue;
+        };
+        assert_eq!(rt; run.rounds, rounds, "{text}");
+        assert_eq!(rt; run.readings.list(), readings, "{text}");
+    }
+    for text in [
+        "rounds",
+        "rounds 0",
+        "rounds 01",
+        "rounds 1000001",
+        "rounds a",
+        "rounds 1 1",
+        "rounds 1\nin 1\nrounds 1",
+        "Rounds 1",
+        "in",
+        "in 123456789",
+        "in 0x1",
+        "in 1 1",
+        "in 1 # a reading",
+        "ticks 1",
+        "pc 0",
+        "reg 1 1",
+        "%run",
+    ] {
+        let found = model_run(rt.alloc(), text.as_bytes())?;
+        assert!(rt; found.is_none(), "{text}");
+    }
+    Ok(())
+}
+
+#[test]
 fn lines_describe_a_start(rt: HostRuntime) -> Result<(), Fail> {
     // The lines, and then the program counter, the ticks, x1, x31, the first and the last word of RAM, the readings.
     for (text, pc, ticks, x1, x31, first, last, readings) in [

@@ -13,7 +13,9 @@ mod grammar_rows;
 mod hart_jobs;
 mod images;
 mod jobs;
+mod model_jobs;
 mod name_rows;
+mod range_rows;
 mod streams;
 
 /// The job of the first session.
@@ -61,7 +63,7 @@ fn run(
 {
     let words = words_of(alloc, words)?;
     let mut source = MemSource::new(job, step, [failing_read].to_vec(alloc)?);
-    let mut sink = MemSink::new(alloc, 10_000, step, [failing_write].to_vec(alloc)?)?;
+    let mut sink = MemSink::new(alloc, 50_000, step, [failing_write].to_vec(alloc)?)?;
     let status = stab(alloc, &words, &mut source, &mut sink);
     Ok((status, sink.held().to_vec(alloc)?))
 }

@@ -22,7 +22,7 @@ fn the_first_session(rt: HostRuntime) -> Result<(), Fail> {
 #[test]
 fn modes_that_are_not_built(rt: HostRuntime) -> Result<(), Fail> {
     let alloc = rt.alloc();
-    for mode in ["run", "model", "make"] {
+    for mode in ["run", "make"] {
         let (status, held) = run(alloc, mode, SEVEN.to_vec(alloc)?, 16, 0, 0)?;
         assert_eq!(rt; status, Status::Refused(901), "{mode}");
         assert_eq!(rt; held.as_slice(), b"refused 901\n".as_slice(), "{mode}");

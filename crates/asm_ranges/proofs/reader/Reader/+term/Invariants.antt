@@ -1,0 +1,45 @@
+use Rattle.std.proofs.Common.{◌≡◌, ◌+◌, ◌*◌, map, drop}
+use Rattle.asm_names.specs.Places.{parted}
+use Rattle.asm_names.specs.ResolvedPlaces.{resolved_term_tokens}
+use Rattle.state_space.specs.Locations.{range_of}
+use Rattle.asm_ranges.specs.Faults.{first_fault, either}
+use Rattle.asm_ranges.specs.RangeFaults.{args_faults, faulty_term}
+use Rattle.asm_ranges.specs.Finding.{shapes_in}
+use Rattle.asm_ranges.proofs.reader.Reader.+term.Given as goal
+
+abbrev pub decreases-term : goal.decreases-term
+decreases-term l = 4 * resolved_term_tokens l.term.now
+
+abbrev pub decreases-pair : goal.decreases-pair
+decreases-pair l = 4 * (resolved_term_tokens l.first.now + resolved_term_tokens l.second.now) + 1
+
+abbrev pub decreases-binary : goal.decreases-binary
+decreases-binary l = 4 * (resolved_term_tokens l.left.now + resolved_term_tokens l.right.now) + 2
+
+abbrev pub decreases-negation : goal.decreases-negation
+decreases-negation l = 4 * resolved_term_tokens l.inner.now + 1
+
+abbrev pub decreases-minimum : goal.decreases-minimum
+decreases-minimum l = 4 * (resolved_term_tokens l.first.now + resolved_term_tokens l.second.now) + 2
+
+abbrev pub decreases-maximum : goal.decreases-maximum
+decreases-maximum l = 4 * (resolved_term_tokens l.first.now + resolved_term_tokens l.second.now) + 2
+
+abbrev pub decreases-conditional : goal.decreases-conditional
+decreases-conditional l = 4 * (resolved_term_tokens l.guard.now + resolved_term_tokens l.first.now + resolved_term_tokens l.second.now) + 2
+
+abbrev pub decreases-args : goal.decreases-args
+decreases-args l = 4 * parted (map resolved_term_tokens l.args.now) + 1
+
+abbrev pub decreases-arguments : goal.decreases-arguments
+decreases-arguments l = 4 * parted (map resolved_term_tokens l.args.now) + 2
+
+abbrev pub decreases-read : goal.decreases-read
+decreases-read l = 4 * parted (map resolved_term_tokens l.args.now) + 3
+
+abbrev pub invariant-args-loop-index : goal.invariant-args-loop-index
+invariant-args-loop-index l = record {
+  after : l.found.after + parted (map resolved_term_tokens (drop l.index l.args)) ≡ l.at + parted (map resolved_term_tokens l.args);
+  first : first_fault (args_faults (map (range_of l.self.domains.now) l.domains) (map (faulty_term (shapes_in l.self.domains.now l.self.funs.now) l.self.row.now) l.args) l.at)
+      ≡ either l.found.fault (first_fault (args_faults (map (range_of l.self.domains.now) (drop l.index l.domains)) (map (faulty_term (shapes_in l.self.domains.now l.self.funs.now) l.self.row.now) (drop l.index l.args)) l.found.after));
+}

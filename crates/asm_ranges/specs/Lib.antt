@@ -1,0 +1,10 @@
+pub mod Laws
+pub mod Ranges
+pub mod Rules
+pub mod Values
+pub mod Instances
+pub mod Faults
+pub mod RangeFaults
+pub mod Finding
+pub mod FindingRules
+pub mod Keeping

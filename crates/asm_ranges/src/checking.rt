@@ -1,0 +1,134 @@
+//! The ranges of whole programs.
+
+ghost use Rattle.std.specs.Prelude.{◌≡◌, ◌+◌, ◌^◌, ◌≤◌, ◌<◌, [], true, length, pos, replicate, MatchOption};
+ghost use Rattle.std.specs.List.{AllByRecursion};
+ghost use Rattle.asm_names.specs.Places.{program_tokens};
+ghost use Rattle.asm_names.specs.ResolvedPlaces.{resolved_rule_tokens};
+ghost use Rattle.state_space.specs.Locations.{shapes_of};
+ghost use Rattle.asm_names.specs.WellFormed.{IsWellFormed};
+ghost use Rattle.asm_ranges.specs.Faults.{Ascending, Judges};
+ghost use Rattle.asm_ranges.specs.Ranges as intervals;
+ghost use Rattle.asm_ranges.specs.RangeFaults as ranges;
+ghost use Rattle.asm_ranges.specs.Finding.{IsReady, IsWord, small_numbers, shapes_in};
+ghost use Rattle.asm_ranges.specs.Keeping.{Keeps};
+
+use crate::checked::Checked;
+use crate::fault::RangeEnd;
+use crate::finding::just;
+use crate::reader::Reader;
+use crate::tables::tables;
+use crate::walk::Walk;
+use asm_names::{Domain, Fun, Interval, Resolved, ResolvedTerm, tokens_are_kept};
+use sqlite_items::{Boxed, Items};
+
+// Each interval is from 0 to 0.
+fn clear(row: &mut Items<Interval>)
+    ensures { row.new ≡ replicate (length row.old) (intervals.just (pos 0)) }
+{
+    for index in 0..row.len() {
+        row.set(index, just(0));
+    }
+}
+
+// The first fault of the term behind `legal`, which is the token at this number, or the place after it.
+#[tactic(auto, using(crate::proofs::Firsts::first_rules))]
+fn legal(
+    domains: &[Domain],
+    funs: &[Fun],
+    term: &Option<Boxed<ResolvedTerm>>,
+    at: u32,
+) -> Result<u32, RangeEnd>
+    requires ready { IsReady domains.now funs.now [] }
+    requires small { MatchOption term.now (Unit {0}) (λ legal. small_numbers legal ≡ true) }
+    requires room { at + ranges.legal_tokens term.now ≤ 2 ^ 31 }
+    ensures { Judges (ranges.legal_faults (shapes_in domains.now funs.now) term.now at) result (λ after. after ≡ at + ranges.legal_tokens term.now) }
+{
+    let reader = Reader {
+        domains,
+        funs,
+        row: &[],
+    };
+    match term {
+        None => Ok(at),
+        Some(term) => {
+            let found = reader.term(term.get(), None, at + 1);
+            match found.fault {
+                Some(end) => Err(end),
+                None => Ok(found.after),
+            }
+        }
+    }
+}
+
+// The same program with the intervals of its binders, or the first fault of its rule, whose first token has this number.
+fn fill(resolved: Resolved, at: u32) -> Result<Resolved, RangeEnd>
+    requires well_formed { IsWellFormed resolved }
+    requires room { at + resolved_rule_tokens resolved.rule ≤ 2 ^ 31 }
+    ensures { Judges (ranges.rule_faults resolved.domains (shapes_of resolved) resolved.rule (ranges.no_intervals resolved) at) result
+        (λ found. Keeps resolved found × AllByRecursion IsWord found.intervals) }
+{
+    let Resolved {
+        source,
+        name,
+        domains,
+        funs,
+        binders,
+        mut intervals,
+        legal,
+        rule,
+    } = resolved;
+    clear(&mut intervals);
+    let walk = Walk {
+        domains: domains.as_slice(),
+        funs: funs.as_slice(),
+    };
+    walk.rule(&mut intervals, rule.get(), at)?;
+    Ok(Resolved {
+        source,
+        name,
+        domains,
+        funs,
+        binders,
+        intervals,
+        legal,
+        rule,
+    })
+}
+
+/// The first fault of a program's ranges, or the same program with the intervals of its binders.
+#[tactic(auto, using(crate::proofs::Firsts::first_rules))]
+fn judge(resolved: Resolved) -> Result<Resolved, RangeEnd>
+    requires well_formed { IsWellFormed resolved }
+    requires room { ranges.text_tokens resolved < 2 ^ 31 }
+    ensures { Judges (ranges.range_faults resolved) result (λ found. Keeps resolved found × AllByRecursion IsWord found.intervals) }
+{
+    let after = tables(
+        resolved.domains.as_slice(),
+        resolved.source.decls().as_slice(),
+        resolved.funs.as_slice(),
+    )?;
+    let after = legal(
+        resolved.domains.as_slice(),
+        resolved.funs.as_slice(),
+        &resolved.legal,
+        after,
+    )?;
+    fill(resolved, after + 1)
+}
+
+/// The program with the intervals of its binders, if none of its ranges has a fault, and else the first fault. The
+/// program's text has fewer than 2,147,483,648 tokens. The call takes no memory, and its recursion is as deep as the
+/// program's terms and rules.
+pub fn check(resolved: Resolved) -> Result<Checked, RangeEnd>
+    requires { program_tokens resolved.source < 2 ^ 31 }
+    ensures first { Judges (ranges.range_faults resolved) result (λ checked. Keeps resolved checked) }
+
+    // The faults are listed by token, and at one token a sum too wide before a value outside, so the first has the least
+    // token.
+    ensures ordered { Ascending (ranges.range_faults resolved) }
+{
+    tokens_are_kept();
+    resolved.comes_from_faultless();
+    let found = judge(resolved)?;
+    Ok(Checked::new(found))
+}

@@ -1,0 +1,4 @@
+pub mod ModelText
+pub mod Needs
+pub mod Running
+pub mod StateText

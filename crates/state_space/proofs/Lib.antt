@@ -1,0 +1,10 @@
+pub mod Exponents
+pub mod Numbers
+pub mod Padding
+pub mod Places
+pub mod Positions
+pub mod Small
+pub mod Values
+pub mod Waiting
+pub mod Widening
+pub mod Sized

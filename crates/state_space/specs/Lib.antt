@@ -1,0 +1,9 @@
+pub mod Arrays
+pub mod Codomains
+pub mod Decoding
+pub mod Firing
+pub mod Firsts
+pub mod Kinds
+pub mod Locations
+pub mod Pending
+pub mod Sizes

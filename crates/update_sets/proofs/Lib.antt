@@ -1,0 +1,14 @@
+pub mod Choices
+pub mod Elements
+pub mod FiringLaws
+pub mod Forms
+pub mod Functions
+pub mod Keeps
+pub mod LeastEquations
+pub mod Passed
+pub mod Readings
+pub mod Restored
+pub mod Places
+pub mod RuleSizes
+pub mod Sizes
+pub mod Starts

@@ -1,0 +1,9 @@
+pub mod Binding
+pub mod FiringLaws
+pub mod Fitting
+pub mod Inputs
+pub mod Least
+pub mod Legal
+pub mod Steps
+pub mod Yields
+pub mod YieldsLaws
