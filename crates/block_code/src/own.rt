@@ -1,0 +1,207 @@
+//! The code that blocks have of their own.
+
+ghost use Rattle.std.specs.Prelude.{◌≡◌, ℕ, ℤ, pos, ◌+◌, ◌<◌, ◌≤◌, ◌^◌, ◌⊎◌, ◌++◌, ◌∷◌, []};
+ghost use Rattle.rv_isa.specs.Operand.{IsImm12, IsImmU, IsReg};
+ghost use Rattle.rv_isa.specs.declared.instr.Instr.TheVariants as instr;
+ghost use Rattle.block_laws.specs.Plan as plan;
+
+use crate::operands::{imm_b, imm_j, imm_u, imm12, reg};
+use rv_isa::{Instr, Reg};
+
+const SCRATCH: u32 = 21;
+
+const OTHER_SCRATCH: u32 = 22;
+
+const RAM_BASE: u32 = 0x1000_0000;
+
+/// A jump over so many words forward.
+pub(crate) fn forward(words: u64) -> Instr
+    requires { words < 262144 }
+    ensures { result ≡ plan.forward words }
+{
+    Instr::Jal {
+        rd: reg(0),
+        imm: imm_j(4 * words as i32),
+    }
+}
+
+/// A jump back over so many words.
+pub(crate) fn backward(words: u64) -> Instr
+    requires { words ≤ 262144 }
+    ensures { result ≡ plan.backward words }
+{
+    Instr::Jal {
+        rd: reg(0),
+        imm: imm_j(-(4 * words as i32)),
+    }
+}
+
+/// A skip over the next word where the register is not 0.
+fn skip_if_set(test: Reg, offset: u32) -> Instr
+    requires even { (offset ≡ 8) ⊎ (offset ≡ 24) }
+    ensures { result ≡ instr.Bne test 0 (pos offset) }
+{
+    Instr::Bne {
+        rs1: test,
+        rs2: reg(0),
+        imm: imm_b(offset as i32),
+    }
+}
+
+/// The code of a choice before its then part, with the jump over so many words to its else part.
+pub(crate) fn choice(test: Reg, words: u64) -> [Instr; 2]
+    requires { words < 262144 }
+    ensures { result ≡ instr.Bne test 0 (pos 8) ∷ plan.forward words ∷ [] }
+{
+    [skip_if_set(test, 8), forward(words)]
+}
+
+/// The high part of a word.
+fn high_part(value: u32) -> u32
+    requires { value < 2 ^ 31 }
+    ensures value { result ≡ plan.high_part value }
+    ensures range { IsImmU result }
+{
+    (value + 2048) / 4096
+}
+
+/// The low part of a word, from -2048 to 2047.
+fn low_part(value: u32) -> i32
+    ensures value { result ≡ plan.low_part value }
+    ensures range { IsImm12 result }
+{
+    let low = (value % 4096) as i32;
+    if low < 2048 { low } else { low - 4096 }
+}
+
+/// The counter becomes 0.
+fn reset(slot: u32) -> [Instr; 2]
+    requires { slot < 2 ^ 20 }
+    ensures { result ≡ plan.reset slot }
+{
+    let high = imm_u(high_part(RAM_BASE + slot));
+    let low = imm12(low_part(RAM_BASE + slot));
+    [
+        Instr::Lui {
+            rd: reg(SCRATCH),
+            imm: high,
+        },
+        Instr::Sw {
+            rs1: reg(SCRATCH),
+            rs2: reg(0),
+            imm: low,
+        },
+    ]
+}
+
+/// The counter and the count are loaded.
+fn compared(count: u32, slot: u32) -> [Instr; 4]
+    requires count { count ≤ 524288 }
+    requires slot { slot < 2 ^ 20 }
+    ensures { result ≡ plan.compared count slot }
+{
+    let high = imm_u(high_part(RAM_BASE + slot));
+    let low = imm12(low_part(RAM_BASE + slot));
+    [
+        Instr::Lui {
+            rd: reg(SCRATCH),
+            imm: high,
+        },
+        Instr::Lw {
+            rd: reg(SCRATCH),
+            rs1: reg(SCRATCH),
+            imm: low,
+        },
+        Instr::Lui {
+            rd: reg(OTHER_SCRATCH),
+            imm: imm_u(high_part(count)),
+        },
+        Instr::Addi {
+            rd: reg(OTHER_SCRATCH),
+            rs1: reg(OTHER_SCRATCH),
+            imm: imm12(low_part(count)),
+        },
+    ]
+}
+
+/// A skip over the next word where the counter is below the count.
+fn skip_if_below() -> Instr
+    ensures { result ≡ instr.Bltu 21 22 (pos 8) }
+{
+    Instr::Bltu {
+        rs1: reg(SCRATCH),
+        rs2: reg(OTHER_SCRATCH),
+        imm: imm_b(8),
+    }
+}
+
+/// The counter becomes one more.
+fn raised(slot: u32) -> [Instr; 4]
+    requires { slot < 2 ^ 20 }
+    ensures { result ≡ plan.raised slot }
+{
+    let high = imm_u(high_part(RAM_BASE + slot));
+    let low = imm12(low_part(RAM_BASE + slot));
+    [
+        Instr::Lui {
+            rd: reg(OTHER_SCRATCH),
+            imm: high,
+        },
+        Instr::Lw {
+            rd: reg(SCRATCH),
+            rs1: reg(OTHER_SCRATCH),
+            imm: low,
+        },
+        Instr::Addi {
+            rd: reg(SCRATCH),
+            rs1: reg(SCRATCH),
+            imm: imm12(1),
+        },
+        Instr::Sw {
+            rs1: reg(OTHER_SCRATCH),
+            rs2: reg(SCRATCH),
+            imm: low,
+        },
+    ]
+}
+
+/// The code of a loop or a scan before its body or guard, with the jump over so many words behind it.
+pub(crate) fn head(count: u32, slot: u32, words: u64) -> [Instr; 8]
+    requires count { count ≤ 524288 }
+    requires slot { slot < 2 ^ 20 }
+    requires words { words < 262144 }
+    ensures { result ≡ plan.reset slot ++ (plan.compared count slot ++ instr.Bltu 21 22 (pos 8) ∷ plan.forward words ∷ []) }
+{
+    let [enter, store] = reset(slot);
+    let [page, counter, high, low] = compared(count, slot);
+    [
+        enter,
+        store,
+        page,
+        counter,
+        high,
+        low,
+        skip_if_below(),
+        forward(words),
+    ]
+}
+
+/// The code of a loop behind its body, with the jump back over so many words.
+pub(crate) fn tail(slot: u32, words: u64) -> [Instr; 5]
+    requires slot { slot < 2 ^ 20 }
+    requires words { words ≤ 262144 }
+    ensures { result ≡ plan.raised slot ++ plan.backward words ∷ [] }
+{
+    let [page, counter, sum, store] = raised(slot);
+    [page, counter, sum, store, backward(words)]
+}
+
+/// The code of a scan behind its guard: the tail of a loop, and a skip over it where the test register is not 0.
+pub(crate) fn judged_tail(test: Reg, slot: u32, words: u64) -> [Instr; 6]
+    requires slot { slot < 2 ^ 20 }
+    requires words { words ≤ 262144 }
+    ensures { result ≡ instr.Bne test 0 (pos 24) ∷ (plan.raised slot ++ plan.backward words ∷ []) }
+{
+    let [page, counter, sum, store, back] = tail(slot, words);
+    [skip_if_set(test, 24), page, counter, sum, store, back]
+}

@@ -1,0 +1,67 @@
+-- Blocks that keep a word.
+use Rattle.std.proofs.Common.{◌≡◌, ◌≢◌, ℕ, zero, suc, ◌+◌, ◌≤◌, List, length, false, ap, ◌∙◌, ⊎_elim, arith}
+use Rattle.std.proofs.lemmas.Bool.{cases_lt}
+use Rattle.block_laws.specs.Block.{IsBlock, IsSlot, Keeps, KeepsWord, Spares}
+use Rattle.block_laws.specs.During.{Allows, During, IsQuiet, Spared}
+use Rattle.block_laws.specs.Ends.{Arrived, Ends, Onward, Stopped}
+use Rattle.block_laws.specs.Moment.{Moment, moment_after, next, traps}
+use Rattle.block_laws.specs.Place.{IsMachine, Within, word_in}
+use Rattle.block_laws.specs.Plan.{If, Line, Loop, Plan, Scan, Seq}
+use Rattle.block_laws.proofs.Keeps.{keeps-on, word_at}
+use Rattle.block_laws.proofs.Structure.{law-of-frame, law-of-top}
+use Rattle.block_laws.proofs.Machine.{word_in-before, word_in-behind}
+
+-- a tick that does not trap leaves the word at the slot as it is
+abbrev pub TickKeeps : List ℕ → ℕ → Moment → Type 0
+TickKeeps rom slot s = traps rom s ≡ false → word_at slot (next rom s) ≡ word_at slot s
+
+module _ (rom : List ℕ) (slot : ℕ) where
+  tick-quiet : IsQuiet rom (TickKeeps rom slot)
+  tick-quiet = record { still = λ s e t. ap (word_in slot) e; stopped = λ s u t. absurd (cc) }
+
+  -- from the ticks of a run to the run, and back
+  during-keeps : {C : Moment → Type 0} {low high : ℕ} {n : ℕ} {s : Moment} → Ends rom (During (TickKeeps rom slot) low high) (λ s'. s'.hart.pc ≡ high) C n s
+      → KeepsWord rom low high slot s
+  during-keeps (Arrived g) t inside untrapped = let b = (inside 0 (omega arith)).below in absurd (omega arith)
+  during-keeps (Stopped i u c) t inside untrapped = let v = untrapped 0 (omega arith) in absurd (cc)
+  during-keeps (Onward i u e) zero inside untrapped = i.1 u
+  during-keeps (Onward i u e) (suc t) inside untrapped = during-keeps e t (λ k h. inside (suc k) (omega arith)) (λ k h. untrapped (suc k) (omega arith))
+
+  keeps-during : {G C : Moment → Type 0} {low high : ℕ} {n : ℕ} {s : Moment} → KeepsWord rom low high slot s → Ends rom (Within low high) G C n s
+      → Ends rom (TickKeeps rom slot) G C n s
+  keeps-during k (Arrived g) = Arrived g
+  keeps-during k (Stopped i t c) = Stopped (λ u. absurd (cc)) t c
+  keeps-during {low = low} {high = high} {s = s} k (Onward i t e) =
+      Onward (λ u. k 0 (λ v h. first v i h) (λ v h. first' v t h)) t (keeps-during (keeps-on rom low high slot s k i t) e)
+    where
+      first : (u : ℕ) → Within low high s → u ≤ 0 → Within low high (moment_after rom u s)
+      first zero w h = w
+      first (suc u) w h = absurd (omega arith)
+
+      first' : (u : ℕ) → traps rom s ≡ false → u ≤ 0 → traps rom (moment_after rom u s) ≡ false
+      first' zero w h = w
+      first' (suc u) w h = absurd (omega arith)
+
+  -- a store at another slot
+  other-slot : (size own : ℕ) → IsMachine rom size → IsSlot slot → IsSlot own → own ≢ slot → Allows rom size (TickKeeps rom slot) own
+  other-slot size own machine is_slot is_own apart s x h valid e t =
+      let a = is_slot.aligned in let b = is_own.aligned in let m = machine.ram_aligned in let count = valid.hart.ram.count in
+      let inside : own + 4 ≤ length s.hart.ram = omega arith in
+      ap (word_in slot) e
+      ∙ ⊎_elim (λ k. word_in-before own x s.hart.ram inside slot (omega arith)) (λ k. word_in-behind own x s.hart.ram inside slot (omega arith)) (cases_lt slot own)
+
+  spares-spared : (size : ℕ) → IsMachine rom size → IsSlot slot → (tree : Plan) → IsBlock tree → Spares slot tree → Spared rom size (TickKeeps rom slot) tree
+  spares-spared size machine is_slot (Line instrs) b p = λ address s stands valid at.
+      keeps-during (p rom size address s machine stands valid at) (law-of-top (Line instrs) b rom size address s machine stands valid at)
+  spares-spared size machine is_slot (Seq first second) b p = (spares-spared size machine is_slot first b.0 p.0, spares-spared size machine is_slot second b.1 p.1)
+  spares-spared size machine is_slot (If test then_part else_part) b p =
+      (spares-spared size machine is_slot then_part b.0 p.0, spares-spared size machine is_slot else_part b.1 p.1)
+  spares-spared size machine is_slot (Loop count own body) b p = (other-slot size own machine is_slot p.1 p.0, spares-spared size machine is_slot body b.2 p.2)
+  spares-spared size machine is_slot (Scan count own guard test found none) b p =
+      (other-slot size own machine is_slot p.1 p.0, spares-spared size machine is_slot guard b.2 p.2, spares-spared size machine is_slot found b.3 p.3, spares-spared size machine is_slot none b.4 p.4)
+
+-- a block keeps the word that its lines spare
+pub keeps-spared : (slot : ℕ) → IsSlot slot → (tree : Plan) → IsBlock tree → Spares slot tree → Keeps slot tree
+keeps-spared slot is_slot tree b p rom size address s machine stands valid at =
+    during-keeps rom slot
+    (law-of-frame tree b rom size address (TickKeeps rom slot) s machine (tick-quiet rom slot) (spares-spared rom slot size machine is_slot tree b p) stands valid at)

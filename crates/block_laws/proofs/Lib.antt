@@ -1,0 +1,22 @@
+pub mod After
+pub mod Counter
+pub mod Ends
+mod Example
+pub mod Forms
+pub mod Frame
+pub mod Keeps
+pub mod Line
+pub mod Loop
+pub mod Machine
+pub mod Nest
+pub mod Place
+pub mod Placed
+pub mod Plain
+pub mod Region
+pub mod Rules
+pub mod Scan
+pub mod Starts
+pub mod Steps
+pub mod Storeless
+pub mod Structure
+pub mod Ticks

@@ -1,0 +1,11 @@
+pub mod Block
+pub mod During
+pub mod Effect
+pub mod Ends
+pub mod Law
+pub mod Moment
+pub mod Place
+pub mod Placed
+pub mod Plan
+pub mod Region
+pub mod Ticks
