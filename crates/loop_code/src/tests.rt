@@ -18,6 +18,9 @@ type SmallRom = Rom<0x4_0000>;
 
 type SmallHart = Hart<0x4_0000, 0x4_0000>;
 
+/// What a slot may hold: counters below a count of 100, at it and past it.
+const COUNTERS: [u32; 6] = [0, 99, 100, 200, 0xffff_fffe, 0xffff_ffff];
+
 fn x(number: u32) -> Reg
     requires { number < 32 }
 {
@@ -124,7 +127,7 @@ fn a_loop_is_left_from_each_place(rt: HostRuntime) -> Result<(), Fail> {
     let block = hundred(alloc)?;
     let rom = placed(alloc, &block)?;
     for pc in 0..56 {
-        for counter in [0, 99, 100, 0xffff_ffff] {
+        for counter in COUNTERS {
             let mut hart = SmallHart::new(alloc, pc)?;
             hart.set_word(0, counter);
             hart.set_reg(x(22), 0xffff_ffff);
@@ -152,6 +155,25 @@ fn a_scan_finds_the_least_counter(rt: HostRuntime) -> Result<(), Fail> {
         assert_eq!(rt; hart.pc(), 84);
         assert_eq!(rt; hart.reg(x(9)), answer, "for {wanted}");
         assert_eq!(rt; hart.word(4), counter, "for {wanted}");
+    }
+    Ok(())
+}
+
+#[test]
+fn a_scan_is_left_from_each_place(rt: HostRuntime) -> Result<(), Fail> {
+    let alloc = rt.alloc();
+    let block = search(alloc)?;
+    let rom = placed(alloc, &block)?;
+    for pc in 0..84 {
+        for counter in COUNTERS {
+            let mut hart = SmallHart::new(alloc, pc)?;
+            hart.set_word(4, counter);
+            hart.set_reg(x(22), 0xffff_ffff);
+            assert!(rt;
+                leaves(&mut hart, &rom, 84, entry(&block)).is_some(),
+                "at {pc} with {counter}"
+            );
+        }
     }
     Ok(())
 }
