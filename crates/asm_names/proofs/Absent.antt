@@ -1,13 +1,8 @@
 -- A guard that the text doesn't have is `(0 = 0)`, and a rule behind `else` that it doesn't have is `skip`.
-use Rattle.std.proofs.Common.{◌≡◌, pos, true, false, refl, sym, ap, ◌∙◌}
-use Rattle.std.proofs.lemmas.Bool.{and_parts, eqb-true}
+use Rattle.asm_names.proofs.Common.{◌≡◌, pos, true, false, refl, sym, ap, ◌∙◌, and_parts, eqb-true, ResolvedTerm, ResolvedTerm-F, roll-ResolvedTerm, out-ResolvedTerm, roll-out-ResolvedTerm, ResolvedRule, ResolvedRule-F, roll-ResolvedRule, out-ResolvedRule, roll-out-ResolvedRule, always, is_zero_by, is_always_by, guard_stands, is_skip_by, else_stands}
 use Rattle.asm_tree.specs.declared.term.Op.TheVariants as ops
-use Rattle.asm_names.specs.declared.resolved_term.ResolvedTerm.{ResolvedTerm, ResolvedTerm-F, roll-ResolvedTerm, out-ResolvedTerm, roll-out-ResolvedTerm}
 use Rattle.asm_names.specs.declared.resolved_term.ResolvedTerm.TheVariants as resolved_terms
-use Rattle.asm_names.specs.declared.resolved_rule.ResolvedRule.{ResolvedRule, ResolvedRule-F, roll-ResolvedRule, out-ResolvedRule, roll-out-ResolvedRule}
 use Rattle.asm_names.specs.declared.resolved_rule.ResolvedRule.TheVariants as resolved_rules
-use Rattle.asm_names.specs.Rules.{always}
-use Rattle.asm_names.specs.WellFormed.{is_zero_by, is_always_by, guard_stands, is_skip_by, else_stands}
 
 pub absent_else : (r : ResolvedRule) → else_stands false r ≡ true → r ≡ resolved_rules.Skip
 absent_else r h = by (out-ResolvedRule r) (roll-out-ResolvedRule r) h

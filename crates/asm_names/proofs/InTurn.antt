@@ -1,15 +1,7 @@
--- Rules in a list, one after another.
-use Rattle.std.proofs.Common.{◌≡◌, ℕ, zero, suc, ◌+◌, ◌<◌, ◌≤◌, List, [], ◌∷◌, ◌++◌, map, drop, get_or, length, Option, Some, None, refl, ap, sym, ◌∙◌, arith, add-one}
-use Rattle.std.specs.Prelude.{sum}
-use Rattle.std.specs.Option.{option_map}
-use Rattle.std.proofs.Math.Seq.{drop-cons}
-use Rattle.std.proofs.lemmas.List.Sums.{sum_by-cons}
-use Rattle.asm_tree.specs.declared.term.Term.{Term}
-use Rattle.asm_tree.specs.declared.rule.Rule.{Rule, Rule-F}
-use Rattle.asm_names.specs.Meanings.{Scope}
-use Rattle.asm_names.specs.Places.{term_tokens, rule_tokens, rule_binders, led, else_tokens}
-use Rattle.asm_names.specs.RuleFaults.{rule_faults, each_rule_faults}
-use Rattle.asm_names.specs.JudgingRules.{faulty, rule_layer_tokens}
+-- Lists, one element after another.
+use Rattle.asm_names.proofs.Common.{◌≡◌, ◌≢◌, ℕ, ◌+◌, ◌<◌, ◌≤◌, List, [], ◌∷◌, ◌++◌, drop, get_or, length, Option, Some, None, refl, ap, sym, ◌∙◌, arith, option_map, drop_more, Const, Term, Rule, Rule-F, NameEnd, term_tokens, rule_tokens, else_tokens, consts_tokens, Fault, first_end, rule_layer_tokens}
+use Rattle.asm_names.proofs.Firsts.{stopped}
+use Rattle.asm_names.specs.declared.fault.NameEnd.TheVariants as ends
 
 pub layer-If : (g : Term) (t : Rule) (o : Option Rule) → rule_layer_tokens (Rule-F.If g t o) ≡ 1 + term_tokens g + 1 + rule_tokens t + else_tokens (option_map rule_tokens o) + 1
 layer-If g t None = refl
@@ -20,23 +12,16 @@ pub layer-Choose : (v d : List ℕ) (g : Term) (b : Rule) (o : Option Rule)
 layer-Choose v d g b None = refl
 layer-Choose v d g b (Some o) = refl
 
--- what is left of a list takes no more tokens
-pub led-drop : (i : ℕ) (rs : List Rule) → led (map rule_tokens (drop i rs)) ≤ led (map rule_tokens rs)
-led-drop zero rs = omega arith
-led-drop (suc i) [] = omega arith
-led-drop (suc i) (r ∷ rs) = omega (arith, led-drop i rs)
+-- what is left of a list begins with its next element
+pub drop-next : {A : Type 0} (i : ℕ) (xs : List A) (x : A) → i < length xs → x ≡ get_or xs i x → drop i xs ≡ x ∷ drop (i + 1) xs
+drop-next i xs x there is = drop_more xs i x there ∙ ap (λ y. y ∷ drop (i + 1) xs) (sym is)
 
-module _ (i : ℕ) (rs : List Rule) (r : Rule) (there : i < length rs) (is : r ≡ get_or rs i r) where
-  next : drop i rs ≡ r ∷ drop (i + 1) rs
-  next = rw add-one (drop-cons rs i r there ∙ ap (λ u. u ∷ drop (suc i) rs) (sym is))
+-- a function that stops at the next element stops so in all
+pub stopped_at : {A : Type 0} (left : List A → List Fault) (i : ℕ) (xs : List A) (x : A) → i < length xs → x ≡ get_or xs i x → (all f g : List Fault) (e : NameEnd)
+    → all ≡ left (drop i xs) → left (x ∷ drop (i + 1) xs) ≡ f ++ g → (e ≢ ends.NoMemory → first_end f ≡ Some e) → e ≢ ends.NoMemory → first_end all ≡ Some e
+stopped_at left i xs x there is all f g e rest parts = stopped all f g e (rest ∙ (ap left (drop-next i xs x there is) ∙ parts))
 
-  pub led-next : led (map rule_tokens (drop i rs)) ≡ 1 + rule_tokens r + led (map rule_tokens (drop (i + 1) rs))
-  led-next = ap (λ us. led (map rule_tokens us)) next
-
-  pub sum-next : sum (map rule_binders (drop i rs)) ≡ rule_binders r + sum (map rule_binders (drop (i + 1) rs))
-  sum-next = ap (λ us. sum (map rule_binders us)) next ∙ sum_by-cons (λ n. n) (rule_binders r) (map rule_binders (drop (i + 1) rs))
-
-  pub each_rule_faults-next : (scope : Scope) (at binders : ℕ)
-      → each_rule_faults scope (map faulty (drop i rs)) at binders
-      ≡ rule_faults r scope (at + 1) binders ++ each_rule_faults scope (map faulty (drop (i + 1) rs)) (at + 1 + rule_tokens r) (binders + rule_binders r)
-  each_rule_faults-next scope at binders = ap (λ us. each_rule_faults scope (map faulty us) at binders) next
+-- each constant has a token
+pub consts_tokens-long : (cs : List Const) → length cs ≤ consts_tokens cs
+consts_tokens-long [] = omega arith
+consts_tokens-long (c ∷ cs) = omega (arith, consts_tokens-long cs)

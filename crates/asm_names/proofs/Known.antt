@@ -1,24 +1,8 @@
 -- Names whose meanings are declared: what their numbers name is there, and is of their sort.
-use Rattle.std.proofs.Common.{◌≡◌, ℕ, ◌<◌, Bool, true, false, cond, List, [], ◌∷◌, ◌++◌, length, Option, Some, None, is_some, bytes_eq, refl, ap, sym, ◌∙◌}
-use Rattle.std.specs.Prelude.{slice_get, IfSome}
-use Rattle.std.specs.List.{AllByRecursion}
-use Rattle.std.specs.Map.{lookup}
-use Rattle.std.proofs.lemmas.Bool.{not-false}
-use Rattle.std.proofs.lemmas.Option.{slice_get_within}
-use Rattle.asm_tree.specs.declared.decl.Kind.{Kind}
-use Rattle.asm_names.specs.declared.fault.NameFault.{NameFault}
+use Rattle.asm_names.proofs.Common.{◌≡◌, ℕ, ◌<◌, Bool, true, false, cond, List, [], ◌∷◌, ◌++◌, length, Option, Some, None, is_some, bytes_eq, refl, ap, sym, ◌∙◌, slice_get, IfSome, AllByRecursion, lookup, not-false, slice_get_within, Kind, NameFault, Values, Fun, Sort, Need, Fault, fault, same_as, refuses, Meaning, Domain, Enumerator, Function, Binder, Scope, meaning_of, number_of, sort_of_domain, size_of_domain, domain_faults, Form, truth, thing, Bound, in_scope, size_in, size_of}
 use Rattle.asm_names.specs.declared.fault.NameFault.TheVariants as causes
-use Rattle.asm_names.specs.declared.program.Domain.{Domain as Values}
-use Rattle.asm_names.specs.declared.program.Fun.{Fun}
-use Rattle.asm_names.specs.declared.sort.Sort.{Sort}
 use Rattle.asm_names.specs.declared.sort.Sort.TheVariants as sorts
-use Rattle.asm_names.specs.declared.sort.Need.{Need}
 use Rattle.asm_names.specs.declared.sort.Need.TheVariants as needs
-use Rattle.asm_names.specs.Faults.{Fault, fault}
-use Rattle.asm_names.specs.Sorts.{same_as, refuses}
-use Rattle.asm_names.specs.Meanings.{Meaning, Domain, Enumerator, Function, Binder, Scope, meaning_of, number_of, sort_of_domain, size_of_domain}
-use Rattle.asm_names.specs.RuleFaults.{domain_faults}
-use Rattle.asm_names.specs.WellFormed.{Sort as Form, truth, thing, Bound, in_scope, size_in, size_of}
 
 pub all-append : {A : Type 0} (P : A → Type 0) (xs ys : List A) → AllByRecursion P xs → AllByRecursion P ys → AllByRecursion P (xs ++ ys)
 all-append P [] ys h k = k
@@ -30,6 +14,9 @@ all-append P (x ∷ xs) ys h k = (h.0, all-append P xs ys h.1 k)
 pub parts_clean : (f g : List Fault) → f ++ g ≡ [] → (f ≡ []) × (g ≡ [])
 parts_clean [] g h = (refl, h)
 parts_clean (x ∷ f) g h = cc
+
+pub three_clean : (f g k : List Fault) → f ++ (g ++ k) ≡ [] → (f ≡ []) × (g ≡ []) × (k ≡ [])
+three_clean f g k h = let p = parts_clean f (g ++ k) h in let q = parts_clean g k p.1 in (p.0, q.0, q.1)
 
 pub unmet : (cause : NameFault) (at : ℕ) (b : Bool) → fault cause at b ≡ [] → b ≡ false
 unmet cause at true h = cc
@@ -59,11 +46,10 @@ pub met : (need : Need) (o : Option Sort) (f g : Form) → refuses need o ≡ fa
 met need None f g h is w = cc
 met needs.Anything (Some s) f g h is w = cc
 met needs.NotTruth (Some sorts.Truth) f g h is w = cc
-met needs.NotTruth (Some _) f g h is w = w
 met (needs.Only sorts.Truth) (Some sorts.Truth) f g h is w = w
 met (needs.Only sorts.Truth) (Some _) f g h is w = cc
 met (needs.Only _) (Some sorts.Truth) f g h is w = cc
-met (needs.Only _) (Some _) f g h is w = w
+met _ (Some _) f g h is w = w
 
 -- ---- names
 
@@ -114,15 +100,12 @@ module _ (domains : List Values) (funs : List Fun) where
     pub size : size_of_domain m ≡ Some (size_of domains (number_of m))
 
   named : (bound : Bound) (m : Option Meaning) → IfSome m (Known bound) → is_some (sort_of_domain m) ≡ true → NamesDomain m
-  named bound None k h = cc
   named bound (Some (Domain n size s)) k h = record {
     inside = slice_get_within domains n k.entry k.there;
     things = k.things;
     size = ap Some (sym k.count ∙ ap size_in (sym k.there));
   }
-  named bound (Some (Enumerator d i)) k h = cc
-  named bound (Some (Function n kind args values)) k h = cc
-  named bound (Some (Binder n s)) k h = cc
+  named bound _ k h = cc
 
   pub names_domain : (bound : Bound) (names : Scope) (w : List ℕ) (at : ℕ) → AllKnown bound names → domain_faults names w at ≡ [] → NamesDomain (meaning_of names w)
   names_domain bound names w at known h = named bound (meaning_of names w) (known_at bound names w known) (not-false _ (unmet causes.Unknown at _ h))

@@ -1,20 +1,11 @@
 -- One level of each definition on terms.
-use Rattle.std.proofs.Common.{◌≡◌, ℕ, List, Option, Some, Result, Ok, Err, sym, ap, ◌∙◌}
-use Rattle.asm_tree.specs.declared.term.Op.{Op}
-use Rattle.asm_tree.specs.declared.term.Term.{Term, Term-F, roll-Term, map-Term, fold-roll-Term, para-roll-Term}
+use Rattle.asm_names.proofs.Common.{◌≡◌, ℕ, List, Option, Some, Result, Ok, Err, sym, ap, ◌∙◌, Op, Term, Term-F, roll-Term, map-Term, fold-roll-Term, para-roll-Term, NameEnd, Sort, Need, ResolvedTerm, op_sort, Scope, meaning_of, term_tokens_by, Fault, Part, term_sort_by, term_faults_by, resolved_term_by, part, layer_tokens, JudgesTerm, JudgesLayer}
+use Rattle.asm_names.specs.Meanings.{sort_of}
+use Rattle.asm_names.specs.Places.{term_tokens}
+use Rattle.asm_names.specs.TermFaults.{term_sort, term_faults}
+use Rattle.asm_names.specs.Terms.{resolved_term}
 use Rattle.asm_tree.specs.declared.term.Term.TheVariants as terms
-use Rattle.asm_names.specs.declared.fault.NameEnd.{NameEnd}
-use Rattle.asm_names.specs.declared.sort.Sort.{Sort}
 use Rattle.asm_names.specs.declared.sort.Sort.TheVariants as sorts
-use Rattle.asm_names.specs.declared.sort.Need.{Need}
-use Rattle.asm_names.specs.declared.resolved_term.ResolvedTerm.{ResolvedTerm}
-use Rattle.asm_names.specs.Sorts.{op_sort}
-use Rattle.asm_names.specs.Meanings.{Scope, meaning_of, sort_of}
-use Rattle.asm_names.specs.Places.{term_tokens, term_tokens_by}
-use Rattle.asm_names.specs.Faults.{Fault}
-use Rattle.asm_names.specs.TermFaults.{Part, term_sort, term_sort_by, term_faults, term_faults_by}
-use Rattle.asm_names.specs.Terms.{resolved_term, resolved_term_by}
-use Rattle.asm_names.specs.Judging.{part, layer_tokens, JudgesTerm, JudgesLayer}
 
 module _ (x : Term-F Term) (t : Term) (e : roll-Term x ≡ t) where
   pub tokens_of : term_tokens t ≡ layer_tokens x
@@ -61,27 +52,3 @@ module _ (scope : Scope) where
   sort-Cond g a b = sort_at (Term-F.Cond g a b) (terms.Cond g a b) (terms.rolls-Cond g a b) scope
 
 pub ruleset sort_rules = (sort-Number, sort-Apply, sort-Binary, sort-Not, sort-Min, sort-Max, sort-Cond)
-
--- how many tokens each term has
-pub tokens-Number : (v : ℕ) → term_tokens (terms.Number v) ≡ layer_tokens (Term-F.Number v)
-tokens-Number v = tokens_of (Term-F.Number v) (terms.Number v) (terms.rolls-Number v)
-
-pub tokens-Apply : (w : List ℕ) (ts : List Term) → term_tokens (terms.Apply w ts) ≡ layer_tokens (Term-F.Apply w ts)
-tokens-Apply w ts = tokens_of (Term-F.Apply w ts) (terms.Apply w ts) (terms.rolls-Apply w ts)
-
-pub tokens-Binary : (o : Op) (l r : Term) → term_tokens (terms.Binary o l r) ≡ layer_tokens (Term-F.Binary o l r)
-tokens-Binary o l r = tokens_of (Term-F.Binary o l r) (terms.Binary o l r) (terms.rolls-Binary o l r)
-
-pub tokens-Not : (t : Term) → term_tokens (terms.Not t) ≡ layer_tokens (Term-F.Not t)
-tokens-Not t = tokens_of (Term-F.Not t) (terms.Not t) (terms.rolls-Not t)
-
-pub tokens-Min : (a b : Term) → term_tokens (terms.Min a b) ≡ layer_tokens (Term-F.Min a b)
-tokens-Min a b = tokens_of (Term-F.Min a b) (terms.Min a b) (terms.rolls-Min a b)
-
-pub tokens-Max : (a b : Term) → term_tokens (terms.Max a b) ≡ layer_tokens (Term-F.Max a b)
-tokens-Max a b = tokens_of (Term-F.Max a b) (terms.Max a b) (terms.rolls-Max a b)
-
-pub tokens-Cond : (g a b : Term) → term_tokens (terms.Cond g a b) ≡ layer_tokens (Term-F.Cond g a b)
-tokens-Cond g a b = tokens_of (Term-F.Cond g a b) (terms.Cond g a b) (terms.rolls-Cond g a b)
-
-pub ruleset token_rules = (tokens-Number, tokens-Apply, tokens-Binary, tokens-Not, tokens-Min, tokens-Max, tokens-Cond)

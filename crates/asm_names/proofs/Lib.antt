@@ -1,4 +1,5 @@
 -- Lemmas on names, faults and numbers.
+pub mod Common
 pub mod Tables
 pub mod Levels
 pub mod Firsts
@@ -8,8 +9,6 @@ pub mod InTurn
 pub mod Spans
 pub mod RuleSpans
 pub mod ProgramSpans
-pub mod ItemsInTurn
-pub mod Sizes
 pub mod Numbering
 pub mod PlainPrograms
 pub mod ResolvedLevels

@@ -1,35 +1,19 @@
 -- A plain program has no fault of its names.
-use Rattle.std.proofs.Common.{◌≡◌, ℕ, ◌+◌, ℤ, pos, negsuc, ◌-ℤ◌, ◌≤ℤ◌, Bool, true, false, cond, is_none, is_some, if◌then◌else◌, int_lt, int_le, nat_abs, nat_lt, nat_le, ◌||◌, List, [], ◌∷◌, ◌++◌, length, Option, Some, None, option_map, option_and_then, bytes_eq, refl, ap, sym, ◌∙◌, arith}
-use Rattle.std.specs.Map.{lookup}
-use Rattle.std.proofs.lemmas.Bool.{and_parts, leb-true, ltb-true, ne_eqb}
-use Rattle.std.proofs.lemmas.Int.{ints}
-use Rattle.asm_tree.specs.Programs.{Parts, is_empty}
-use Rattle.asm_tree.specs.declared.decl.Const.{Const}
-use Rattle.asm_tree.specs.declared.decl.Decl.{Decl}
-use Rattle.asm_tree.specs.declared.decl.Decl.TheVariants as decls
-use Rattle.asm_tree.specs.declared.decl.Kind.TheVariants as kinds
-use Rattle.asm_tree.specs.declared.term.Term.{Term, Term-F, roll-Term, out-Term, roll-out-Term}
-use Rattle.asm_tree.specs.declared.rule.Rule.{Rule, Rule-F, out-Rule, roll-out-Rule, map-Rule}
+use Rattle.asm_names.proofs.Common.{◌≡◌, ℕ, ◌+◌, ℤ, pos, negsuc, ◌-ℤ◌, ◌≤ℤ◌, Bool, true, false, cond, is_none, is_some, if◌then◌else◌, int_lt, int_le, nat_abs, nat_lt, nat_le, ◌||◌, List, [], ◌∷◌, ◌++◌, length, Option, Some, None, option_and_then, bytes_eq, refl, ap, sym, ◌∙◌, arith, lookup, and_parts, leb-true, le-ltb, ne_eqb, ints, Parts, is_empty, Const, Decl, Term, Term-F, roll-Term, out-Term, roll-out-Term, Rule, Rule-F, out-Rule, roll-out-Rule, map-Rule, NameFault, Meaning, Function, Scope, meaning_of, sort_of_domain, decl_tokens, fault, declared, range_size, is_far, decl_faults, decls_faults, names_after, term_faults, RulePart, rule_faults, rule_faults_by, faulty, names_of, program_faults}
+use Rattle.std.proofs.Common.{option_map}
 use Rattle.plain_program.specs.Plain.{PlainProgram}
-use Rattle.plain_program.specs.Reading as plain
 use Rattle.plain_program.specs.Reading.{all_declared, number_in, number_of, plain_rule, plain_of}
-use Rattle.plain_program.specs.Scope as plain_scope
 use Rattle.plain_program.specs.declared.plain.Domain.{Domain as PlainDomain}
 use Rattle.plain_program.specs.declared.plain.PlainRule.{PlainRule}
-use Rattle.asm_names.specs.declared.fault.NameFault.{NameFault}
+use Rattle.asm_names.proofs.Levels.{faults_at}
+use Rattle.asm_names.proofs.RuleLevels.{faults_at as rule_faults_at}
+use Rattle.asm_tree.specs.declared.decl.Decl.TheVariants as decls
+use Rattle.asm_tree.specs.declared.decl.Kind.TheVariants as kinds
+use Rattle.plain_program.specs.Reading as plain
+use Rattle.plain_program.specs.Scope as plain_scope
 use Rattle.asm_names.specs.declared.fault.NameFault.TheVariants as causes
 use Rattle.asm_names.specs.declared.sort.Need.TheVariants as needs
 use Rattle.asm_names.specs.declared.sort.Sort.TheVariants as sorts
-use Rattle.asm_names.specs.Meanings.{Meaning, Domain, Enumerator, Function, Binder, Scope, meaning_of, sort_of_domain}
-use Rattle.asm_names.specs.Places.{decl_tokens}
-use Rattle.asm_names.specs.Faults.{fault}
-use Rattle.asm_names.specs.DeclFaults.{declared, range_size, is_far, decl_faults, decls_faults, names_after}
-use Rattle.asm_names.specs.TermFaults.{term_faults}
-use Rattle.asm_names.specs.RuleFaults.{RulePart, rule_faults, rule_faults_by}
-use Rattle.asm_names.specs.JudgingRules.{faulty}
-use Rattle.asm_names.specs.Programs.{names_of, program_faults}
-use Rattle.asm_names.proofs.Levels.{faults_at}
-use Rattle.asm_names.proofs.RuleLevels.{faults_at as rule_faults_at}
 
 -- ---- names with their meanings here and in a plain program
 
@@ -53,19 +37,17 @@ module _ {V : Type 0} (domain : Option V → Option PlainDomain) (place : Option
 
   looked_up : Like None None → (test : List ℕ → Bool) (ps : List (List ℕ × V)) (ms : Scope) → Alike ps ms → Like (lookup test ps) (lookup test ms)
   looked_up nothing test [] [] h = nothing
-  looked_up nothing test [] (m ∷ ms) h = absurd h
-  looked_up nothing test (p ∷ ps) [] h = absurd h
   looked_up nothing test (p ∷ ps) (m ∷ ms) h = rw h.0.0 (by (test m.0) (looked_up nothing test ps ms h.1))
     where
       by : (b : Bool) → Like (lookup test ps) (lookup test ms) → Like (cond b (Some p.1) (lookup test ps)) (cond b (Some m.1) (lookup test ms))
       by true rest = h.0.1
       by false rest = rest
+  looked_up nothing test _ _ h = absurd h
 
   pushed : (ps : List (List ℕ × V)) (ms : Scope) (w : List ℕ) (p : V) (m : Meaning) → Alike ps ms → Like (Some p) (Some m) → Alike (ps ++ (w, p) ∷ []) (ms ++ (w, m) ∷ [])
   pushed [] [] w p m h like = ((refl, like), tt)
-  pushed [] (x ∷ ms) w p m h like = absurd h
-  pushed (x ∷ ps) [] w p m h like = absurd h
   pushed (x ∷ ps) (y ∷ ms) w p m h like = (h.0, pushed ps ms w p m h.1 like)
+  pushed _ _ w p m h like = absurd h
 
 abbrev AreAlike : plain_scope.Scope → Scope → Type 0
 AreAlike s names = Alike plain_scope.domain_of plain_scope.place_of s.names names
@@ -82,8 +64,7 @@ free (Some m) h = cc
 
 taken : {A B : Type 0} (b : Bool) (o : Option A) (f : A → B) (x : B) → (if b then option_map f o else None) ≡ Some x → (b ≡ true) × ((a : A) × ((o ≡ Some a) × (f a ≡ x)))
 taken true (Some a) f x h = (refl, (a, (refl, cc)))
-taken true None f x h = cc
-taken false o f x h = cc
+taken _ _ f x h = cc
 
 not_empty : {A : Type 0} (x : A) (xs : List A) → is_empty (x ∷ xs) ≡ false
 not_empty x xs = ne_eqb (length (x ∷ xs)) 0 (λ e. omega (arith, e))
@@ -101,21 +82,7 @@ clean : (cause : NameFault) (at : ℕ) (b : Bool) → b ≡ false → fault caus
 clean cause at b h = ap (fault cause at) h
 
 not_below : (a b : ℤ) → b ≤ℤ a → int_lt a b ≡ false
-not_below a b h = by (int_lt a b) refl
-  where
-    by : (t : Bool) → int_lt a b ≡ t → t ≡ false
-    by true e = absurd (omega (arith, ints, h))
-    by false e = refl
-
-at_most : (a b : ℕ) → nat_le b a ≡ true → nat_lt a b ≡ false
-at_most a b h = by (nat_lt a b) refl
-  where
-    by : (t : Bool) → nat_lt a b ≡ t → t ≡ false
-    by true e = absurd (omega (arith, ltb-true a b e, leb-true b a h))
-    by false e = refl
-
-between : (a b : ℤ) → int_le a b ≡ true → a ≤ℤ b
-between a b h = omega (arith, ints)
+not_below a b h = grind (arith, ints)
 
 -- a domain of a plain program is neither empty nor too large
 within : (lo hi : ℤ) → plain.is_domain (record { lo = lo; hi = hi }) ≡ true
@@ -124,16 +91,14 @@ within lo hi h =
     let first = and_parts _ (nat_le (nat_abs (hi -ℤ lo) + 1) 65536) h in
     let second = and_parts _ (int_le hi (pos 1048576)) first.0 in
     let third = and_parts (int_le lo hi) (int_le (negsuc 1048575) lo) second.0 in
-    let order : lo ≤ℤ hi = between lo hi third.0 in
-    let low : negsuc 1048575 ≤ℤ lo = between (negsuc 1048575) lo third.1 in
-    let high : hi ≤ℤ pos 1048576 = between hi (pos 1048576) second.1 in
+    let order : lo ≤ℤ hi = omega (arith, ints, third.0) in
+    let low : negsuc 1048575 ≤ℤ lo = omega (arith, ints, third.1) in
+    let high : hi ≤ℤ pos 1048576 = omega (arith, ints, second.1) in
     let full = not_below hi lo order in
-    let size : nat_lt 65536 (range_size lo hi) ≡ false = rw full (at_most 65536 (nat_abs (hi -ℤ lo) + 1) first.1) in
-    let a = not_below lo (negsuc 1048575) low in
-    let b = not_below (pos 1048576) lo (omega (arith, ints, order, high)) in
-    let c = not_below hi (negsuc 1048575) (omega (arith, ints, order, low)) in
-    let d = not_below (pos 1048576) hi high in
-    (full, rw (size, a, b, c, d) refl)
+    let size : nat_lt 65536 (range_size lo hi) ≡ false = rw full (le-ltb 65536 (nat_abs (hi -ℤ lo) + 1) (leb-true _ 65536 first.1)) in
+    let lo_near = not_below (pos 1048576) lo (omega (arith, ints)) in
+    let hi_near = not_below hi (negsuc 1048575) (omega (arith, ints)) in
+    (full, rw (size, not_below lo (negsuc 1048575) low, lo_near, hi_near, not_below (pos 1048576) hi high) refl)
 
 -- ---- declarations
 
@@ -166,12 +131,9 @@ module _ (s next : plain_scope.Scope) (names : Scope) (alike : AreAlike s names)
 
   declaration : (d : Decl) → plain.declared s d ≡ Some next → Declared next names d at
   declaration (decls.Range w lo hi) h = range w lo hi h
-  declaration (decls.Names w ws) h = cc
   declaration (decls.Fun kinds.Controlled w [] codomain cs) h = function w codomain cs h
   declaration (decls.Fun kinds.Controlled w (arg ∷ args) codomain cs) h = let some = not_empty arg args in cc
-  declaration (decls.Fun kinds.Input w args codomain cs) h = cc
-  declaration (decls.Fun kinds.Output w args codomain cs) h = cc
-  declaration (decls.Fun kinds.Static w args codomain cs) h = cc
+  declaration _ h = cc
 
 -- declarations have no fault, and the names are alike behind them
 record AllDeclared (last : plain_scope.Scope) (names : Scope) (ds : List Decl) (at : ℕ) : Type 0 where
@@ -203,26 +165,17 @@ number names t n at h = by (out-Term t) (roll-out-Term t) h
   where
     by : (x : Term-F Term) → roll-Term x ≡ t → number_in x ≡ Some n → term_faults names t (needs.Only sorts.Int) at ≡ []
     by (Term-F.Number v) e h = faults_at (Term-F.Number v) t e names (needs.Only sorts.Int) at
-    by (Term-F.Apply w ts) e h = cc
-    by (Term-F.Binary o l r) e h = cc
-    by (Term-F.Not a) e h = cc
-    by (Term-F.Min a b) e h = cc
-    by (Term-F.Max a b) e h = cc
-    by (Term-F.Cond g a b) e h = cc
+    by _ e h = cc
 
 module _ (s : plain_scope.Scope) (names : Scope) (alike : AreAlike s names) (does : PlainRule) (at binders : ℕ) where
   update : (w : List ℕ) (t : Term) (m : Option Meaning) (n : ℕ) → meaning_of names w ≡ m → IsPlainFunction m → number_of t ≡ Some n
       → rule_faults_by (map-Rule Rule RulePart faulty (Rule-F.Update w [] t)) names at binders ≡ []
   update w t (Some (Function k kind args values)) n known like is = rw (known, like.0, like.1.0, like.1.1) (number names t n (at + 1 + 0 + 1) is)
-  update w t None n known like is = absurd like
-  update w t (Some (Domain k size sort)) n known like is = absurd like
-  update w t (Some (Enumerator domain index)) n known like is = absurd like
-  update w t (Some (Binder k sort)) n known like is = absurd like
+  update w t _ n known like is = absurd like
 
   updated : (place value : Option ℕ) → plain.update place value ≡ Some does → (k : ℕ) × ((n : ℕ) × ((place ≡ Some k) × (value ≡ Some n)))
   updated (Some k) (Some n) h = (k, (n, (refl, refl)))
-  updated (Some k) None h = cc
-  updated None value h = cc
+  updated _ _ h = cc
 
   level : (x : Rule-F Rule) → plain.plain_rule_in s x ≡ Some does → rule_faults_by (map-Rule Rule RulePart faulty x) names at binders ≡ []
   level Rule-F.Skip h = refl
@@ -230,11 +183,7 @@ module _ (s : plain_scope.Scope) (names : Scope) (alike : AreAlike s names) (doe
       let got = updated (plain_scope.place_of (plain_scope.meaning_of s w)) (number_of t) h in
       update w t (meaning_of names w) got.1.0 refl ((like_at s names alike w).function got.0 got.1.1.0) got.1.1.1
   level (Rule-F.Update w (arg ∷ args) t) h = let some = not_empty arg args in let bad : None ≡ Some does = rw some at h in absurd (no_rule bad)
-  level (Rule-F.If g t o) h = cc
-  level (Rule-F.Par rs) h = cc
-  level (Rule-F.Forall v d g b) h = cc
-  level (Rule-F.Choose v d g b o) h = cc
-  level (Rule-F.Let v t b) h = cc
+  level _ h = cc
 
   rule : (r : Rule) → plain_rule s r ≡ Some does → rule_faults r names at binders ≡ []
   unfolding plain_rule
@@ -256,5 +205,4 @@ faultless parts p h = by parts.legal (all_declared plain_scope.empty parts.decls
     by : (l : Option Term) (o : Option plain_scope.Scope) → parts.legal ≡ l → all_declared plain_scope.empty parts.decls ≡ o
         → (if is_none l then option_and_then (plain.program_in parts.name parts.rule) o else None) ≡ Some p → program_faults parts ≡ []
     by None (Some last) no_legal all h = ruled last (plain_rule last parts.rule) no_legal all refl h
-    by None None no_legal all h = cc
-    by (Some t) o has all h = cc
+    by _ _ no_legal all h = cc

@@ -1,11 +1,7 @@
 -- One level of each definition on resolved terms and rules.
-use Rattle.std.proofs.Common.{◌≡◌, ℕ, Bool, List, Option, sym, ap, ◌∙◌}
-use Rattle.asm_names.specs.declared.program.Fun.{Fun}
-use Rattle.asm_names.specs.declared.program.Resolved.{Resolved}
-use Rattle.asm_names.specs.declared.resolved_term.ResolvedTerm.{ResolvedTerm, ResolvedTerm-F, roll-ResolvedTerm, out-ResolvedTerm, out-roll-ResolvedTerm, map-ResolvedTerm, fold-roll-ResolvedTerm}
-use Rattle.asm_names.specs.declared.resolved_rule.ResolvedRule.{ResolvedRule, ResolvedRule-F, roll-ResolvedRule, out-ResolvedRule, out-roll-ResolvedRule, map-ResolvedRule, fold-roll-ResolvedRule, para-roll-ResolvedRule}
-use Rattle.asm_names.specs.ResolvedPlaces.{resolved_term_tokens, resolved_term_tokens_by, resolved_rule_tokens, resolved_rule_tokens_by, resolved_rule_binders, resolved_rule_binders_by}
-use Rattle.asm_names.specs.WellFormed.{Sort, Bound, sort_of, sort_by, RulePart, rule_named, named_by}
+use Rattle.asm_names.proofs.Common.{◌≡◌, ℕ, Bool, List, Option, sym, ap, ◌∙◌, Fun, Resolved, ResolvedTerm, ResolvedTerm-F, roll-ResolvedTerm, out-ResolvedTerm, out-roll-ResolvedTerm, map-ResolvedTerm, fold-roll-ResolvedTerm, ResolvedRule, ResolvedRule-F, roll-ResolvedRule, out-ResolvedRule, out-roll-ResolvedRule, map-ResolvedRule, fold-roll-ResolvedRule, para-roll-ResolvedRule, resolved_term_tokens_by, resolved_rule_tokens_by, resolved_rule_binders_by, Bound, sort_by, named_by}
+use Rattle.asm_names.specs.ResolvedPlaces.{resolved_term_tokens, resolved_rule_tokens, resolved_rule_binders}
+use Rattle.asm_names.specs.WellFormed.{Sort, sort_of, RulePart, rule_named}
 
 module _ (x : ResolvedTerm-F ResolvedTerm) (t : ResolvedTerm) (e : roll-ResolvedTerm x ≡ t) where
   pub term_tokens_of : resolved_term_tokens t ≡ resolved_term_tokens_by (map-ResolvedTerm ResolvedTerm ℕ resolved_term_tokens x)

@@ -1,16 +1,9 @@
 -- One level of each definition on rules.
-use Rattle.std.proofs.Common.{◌≡◌, ℕ, List, Result, Ok, Err, sym, ap, ◌∙◌}
-use Rattle.asm_tree.specs.declared.rule.Rule.{Rule, Rule-F, roll-Rule, map-Rule, fold-roll-Rule, para-roll-Rule}
-use Rattle.asm_names.specs.declared.fault.NameEnd.{NameEnd}
-use Rattle.asm_names.specs.declared.resolved_rule.ResolvedRule.{ResolvedRule}
+use Rattle.asm_names.proofs.Common.{◌≡◌, ℕ, zero, suc, ◌+◌, ◌^◌, ◌<◌, ◌≤◌, List, Result, Ok, Err, sym, ap, ◌∙◌, arith, Rule, Rule-F, roll-Rule, out-Rule, roll-out-Rule, map-Rule, fold-roll-Rule, para-roll-Rule, NameEnd, ResolvedRule, Scope, scope, rule_tokens_by, rule_binders_by, Fault, Faulty, rule_faults_by, Made, resolved_rule_by, faulty, made, rule_layer_tokens, rule_layer_binders, JudgesRule, JudgesRuleLayer}
 use Rattle.asm_names.specs.declared.rule.Walk.{Walk}
-use Rattle.asm_names.specs.Meanings.{Scope}
-use Rattle.asm_names.specs.Table.{scope}
-use Rattle.asm_names.specs.Places.{rule_tokens, rule_tokens_by, rule_binders, rule_binders_by}
-use Rattle.asm_names.specs.Faults.{Fault}
-use Rattle.asm_names.specs.RuleFaults.{RulePart as Faulty, rule_faults, rule_faults_by}
-use Rattle.asm_names.specs.Rules.{RulePart as Made, resolved_rule, resolved_rule_by}
-use Rattle.asm_names.specs.JudgingRules.{faulty, made, rule_layer_tokens, rule_layer_binders, JudgesRule, JudgesRuleLayer}
+use Rattle.asm_names.specs.Places.{rule_tokens, rule_binders}
+use Rattle.asm_names.specs.RuleFaults.{rule_faults}
+use Rattle.asm_names.specs.Rules.{resolved_rule}
 
 module _ (x : Rule-F Rule) (r : Rule) (e : roll-Rule x ≡ r) where
   pub tokens_of : rule_tokens r ≡ rule_layer_tokens x
@@ -33,3 +26,21 @@ module _ (x : Rule-F Rule) (r : Rule) (e : roll-Rule x ≡ r) where
   pub whole : (old : Walk) (outcome : Result ResolvedRule NameEnd) (new : Walk) → JudgesRuleLayer x old outcome new → JudgesRule r old outcome new
   whole old (Ok n) new h = rw (faults_at (scope old.table) old.place old.binders, resolved_at (scope old.table) old.binders, tokens_of, binders_of) h
   whole old (Err end) new h = rw (faults_at (scope old.table) old.place old.binders) h
+
+some_tokens : (x : Rule-F Rule) → 0 < rule_layer_tokens x
+some_tokens Rule-F.Skip = omega arith
+some_tokens _ = omega arith
+
+-- what holds of a rule where it holds of every rule with fewer tokens, holds of every rule
+pub by_tokens : (P : Rule → Type 0)
+    → ((n : ℕ) → ((r : Rule) → rule_tokens r ≤ n → P r) → (x : Rule-F Rule) (r : Rule) → roll-Rule x ≡ r → rule_layer_tokens x ≤ suc n → P r) → (r : Rule) → P r
+by_tokens P level r = at_depth (rule_tokens r) r (omega arith)
+  where
+    at_depth : (n : ℕ) (r : Rule) → rule_tokens r ≤ n → P r
+    at_depth zero r small = absurd (omega (arith, tokens_of (out-Rule r) r (roll-out-Rule r), some_tokens (out-Rule r)))
+    at_depth (suc n) r small = level n (at_depth n) (out-Rule r) r (roll-out-Rule r) (omega (arith, tokens_of (out-Rule r) r (roll-out-Rule r)))
+
+-- what a part of a walk asks of its room, by a rule's parts
+pub room_of : (x : Rule-F Rule) (r : Rule) → roll-Rule x ≡ r → (place binders : ℕ) → place + rule_tokens r < 2 ^ 32 → binders + rule_binders r < 2 ^ 32
+    → (place + rule_layer_tokens x < 2 ^ 32) × (binders + rule_layer_binders x < 2 ^ 32)
+room_of x r e place binders room bound_room = (omega (arith, tokens_of x r e, room), omega (arith, binders_of x r e, bound_room))

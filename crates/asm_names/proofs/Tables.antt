@@ -1,13 +1,8 @@
 -- A table's names are looked up as the names of its environment.
-use Rattle.std.proofs.Common.{◌≡◌, ℕ, ◌-◌, ◌<◌, take, length, arith, Bool, true, false, cond, List, [], ◌∷◌, ◌++◌, map, Option, None, Some, refl, sym, ap, ◌∙◌}
-use Rattle.std.specs.Option.{option_map, option_to_list, IsSome}
-use Rattle.std.proofs.lemmas.List.{length-append}
+use Rattle.asm_names.proofs.Common.{◌≡◌, ℕ, ◌-◌, ◌<◌, take, length, arith, Bool, true, false, cond, List, [], ◌∷◌, ◌++◌, map, Option, None, Some, refl, sym, ap, ◌∙◌, option_map, option_to_list, IsSome, length-append, lookup, Scope, known}
 use Rattle.std.proofs.Math.Seq.{take-append_seam}
-use Rattle.std.specs.Map.{lookup}
 use Rattle.std.specs.declared.vec.Vec.{Vec}
 use Rattle.asm_names.specs.declared.table.Entry.{Entry}
-use Rattle.asm_names.specs.Meanings.{Scope}
-use Rattle.asm_names.specs.Table.{known}
 
 none_of : (o : Option Entry) → option_map known o ≡ None → o ≡ None
 none_of None h = refl

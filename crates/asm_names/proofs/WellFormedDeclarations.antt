@@ -1,29 +1,13 @@
 -- Declarations without faults are well formed in numbers, and what their names stand for is there.
-use Rattle.std.proofs.Common.{◌≡◌, ℕ, ◌+◌, ◌*◌, ◌<◌, ◌≤◌, ℤ, pos, negsuc, nat_abs, ◌-ℤ◌, ◌≤ℤ◌, int_lt, true, false, cond, not, ◌||◌, nat_lt, List, [], ◌∷◌, ◌++◌, map, length, Option, Some, None, inl, inr, refl, sym, ap, ◌∙◌, arith, append_assoc, length-append}
-use Rattle.std.specs.Prelude.{slice_get, IfSome}
-use Rattle.std.specs.List.{AllByRecursion}
-use Rattle.std.proofs.lemmas.Bool.{and_parts, or_parts, ltb-false, leb-true}
-use Rattle.std.proofs.lemmas.Int.{ints}
-use Rattle.std.proofs.lemmas.List.{length-map}
-use Rattle.std.proofs.lemmas.List.Sums.{sum_by-append}
-use Rattle.asm_tree.specs.Programs.{is_empty, const_fits, consts_fit, decl_fits, decls_fit}
-use Rattle.asm_tree.specs.declared.decl.Const.{Const}
+use Rattle.asm_names.proofs.Common.{◌≡◌, ℕ, ◌+◌, ◌*◌, ◌<◌, ◌≤◌, ℤ, pos, negsuc, nat_abs, ◌-ℤ◌, ◌≤ℤ◌, int_lt, true, false, cond, not, ◌||◌, nat_lt, List, [], ◌∷◌, ◌++◌, map, length, Option, Some, inl, inr, refl, sym, ap, ◌∙◌, arith, append_assoc, slice_get, IfSome, AllByRecursion, and_parts, or_parts, ltb-false, leb-true, ints, length-map, sum_by-append, is_empty, const_fits, consts_fit, decl_fits, decls_fit, Const, Decl, Kind, Values, Fun, Meaning, Enumerator, Scope, meaning_of, number_of, sort_of_domain, size_of_domain, is_domain, is_function, domains_in, functions_in, decl_tokens, range_size, is_far, items_from, declared, times_sizes, table_faults, constants_of, domains_faults, decl_faults, names_after, decls_faults, resolved_domains, resolved_funs, index_of, resolved_const, size_of, product, IsDomain, table_length, IsFun}
+use Rattle.std.proofs.Common.{length-append}
+use Rattle.asm_names.proofs.Numbering.{resolved_domains-cons, resolved_funs-cons, new_domains, new_functions}
+use Rattle.asm_names.proofs.Known.{all-append, parts_clean, three_clean, unmet, IsThing, Known, AllKnown, known_at, names_domain}
+use Rattle.asm_names.proofs.WellFormedTerms.{counted}
 use Rattle.asm_tree.specs.declared.decl.Const.TheVariants as consts
-use Rattle.asm_tree.specs.declared.decl.Decl.{Decl}
 use Rattle.asm_tree.specs.declared.decl.Decl.TheVariants as decls
-use Rattle.asm_tree.specs.declared.decl.Kind.{Kind}
 use Rattle.asm_tree.specs.declared.decl.Kind.TheVariants as kinds
 use Rattle.asm_names.specs.declared.fault.NameFault.TheVariants as causes
-use Rattle.asm_names.specs.declared.program.Domain.{Domain as Values}
-use Rattle.asm_names.specs.declared.program.Fun.{Fun}
-use Rattle.asm_names.specs.Meanings.{Meaning, Domain, Enumerator, Function, Binder, Scope, meaning_of, number_of, sort_of_domain, size_of_domain, is_domain, is_function, domains_in, functions_in}
-use Rattle.asm_names.specs.Places.{decl_tokens}
-use Rattle.asm_names.specs.DeclFaults.{range_size, is_far, items_from, declared, times_sizes, table_faults, constants_of, domains_faults, decl_faults, names_after, decls_faults}
-use Rattle.asm_names.specs.Programs.{resolved_domains, resolved_funs, index_of, resolved_const}
-use Rattle.asm_names.specs.WellFormed.{size_of, product, IsDomain, table_length, IsFun}
-use Rattle.asm_names.proofs.Numbering.{resolved_domains-cons, resolved_funs-cons, new_domains, new_functions}
-use Rattle.asm_names.proofs.Known.{all-append, parts_clean, unmet, IsThing, Known, AllKnown, known_at, names_domain}
-use Rattle.asm_names.proofs.WellFormedTerms.{counted}
 
 -- ---- places
 
@@ -109,11 +93,8 @@ module _ (domains : List Values) (funs : List Fun) where
         }
 
     index : (m : Option Meaning) → IfSome m (Known domains funs []) → nat_abs (index_of m) ≤ 2147483647
-    index None k = omega arith
-    index (Some (Domain n size s)) k = omega arith
     index (Some (Enumerator d i)) k = omega (arith, k)
-    index (Some (Function n kind args values)) k = omega arith
-    index (Some (Binder n s)) k = omega arith
+    index _ k = omega arith
 
     constant : (c : Const) → const_fits c ≡ true → nat_abs (resolved_const names c) ≤ 2147483647
     constant (consts.Number v) h = leb-true (nat_abs v) 2147483647 h
@@ -129,16 +110,12 @@ module _ (domains : List Values) (funs : List Fun) where
     tabled kinds.Static sizes ns cs at is h =
         let same = counted (1 * product (map (size_of domains) ns)) (length cs) at (rw is at h) in
         omega (arith, length-map cs (resolved_const names), same)
-    tabled kinds.Controlled sizes ns cs at is h = refl
-    tabled kinds.Input sizes ns cs at is h = refl
-    tabled kinds.Output sizes ns cs at is h = refl
+    tabled _ sizes ns cs at is h = refl
 
     bounded : (kind : Kind) (w : List ℕ) (args : List (List ℕ)) (codomain : List ℕ) (cs : List Const) → decl_fits (decls.Fun kind w args codomain cs) ≡ true
         → AllByRecursion (λ c. nat_abs c ≤ 2147483647) (map (resolved_const names) (constants_of kind cs))
     bounded kinds.Static w args codomain cs h = constants cs (and_parts (not (is_empty cs)) (consts_fit cs) h).1
-    bounded kinds.Controlled w args codomain cs h = tt
-    bounded kinds.Input w args codomain cs h = tt
-    bounded kinds.Output w args codomain cs h = tt
+    bounded _ w args codomain cs h = tt
 
   -- ---- one declaration
 
@@ -157,17 +134,15 @@ module _ (domains : List Values) (funs : List Fun) where
   declaration : (names : Scope) (d : Decl) (before after : List Values) (first last : List Fun) (at : ℕ) → IsKnown names → Between names d before after first last
       → decl_fits d ≡ true → decl_faults names d at ≡ [] → Declared names d
   declaration names (decls.Range w lo hi) before after first last at known here fits h =
-      let p = parts_clean _ _ h in
-      let q = parts_clean _ _ p.1 in
+      let p = three_clean _ _ _ h in
       record {
-        domains_fit = (range_fits _ hi refl refl (unmet causes.Empty (at + 1) _ q.0) (unmet causes.TooLarge (at + 1) _ q.1), tt);
+        domains_fit = (range_fits _ hi refl refl (unmet causes.Empty (at + 1) _ p.1) (unmet causes.TooLarge (at + 1) _ p.2), tt);
         funs_fit = tt;
         all_known = (record { entry = _; there = placed domains before after _ _ here.domains_split here.domains_count; count = refl; things = refl }, tt);
       }
   declaration names (decls.Names w ws) before after first last at known here fits h =
-      let p = parts_clean _ _ h in
-      let q = parts_clean _ _ p.1 in
-      let few = ltb-false 65536 (length ws) (unmet causes.TooLarge (at + 1) _ q.0) in
+      let p = three_clean _ _ _ h in
+      let few = ltb-false 65536 (length ws) (unmet causes.TooLarge (at + 1) _ p.1) in
       record {
         domains_fit = (list_fits _ refl refl (some_items ws fits) few, tt);
         funs_fit = tt;
@@ -177,12 +152,10 @@ module _ (domains : List Values) (funs : List Fun) where
         );
       }
   declaration names (decls.Fun kind w args codomain cs) before after first last at known here fits h =
-      let p = parts_clean _ _ h in
-      let q = parts_clean _ _ p.1 in
-      let u = parts_clean _ _ q.1 in
-      let v = parts_clean _ _ u.1 in
-      let y = parts_clean _ _ v.1 in
-      let a = arguments names known args _ v.0 in
+      let p = three_clean _ _ _ h in
+      let u = three_clean _ _ _ p.2 in
+      let y = parts_clean _ _ u.2 in
+      let a = arguments names known args _ u.1 in
       let values = names_domain domains funs [] names codomain _ known y.0 in
       let few = ltb-false 3 (length args) (unmet causes.TooManyArguments (at + 1) _ u.0) in
       let many = length-map args (λ arg. number_of (meaning_of names arg)) in
@@ -194,7 +167,7 @@ module _ (domains : List Values) (funs : List Fun) where
             few = rw many few;
             args = a.inside;
             codomain = values.inside;
-            table = tabled names known kind _ (numbers names known args) cs (at + 1) (a.sizes 1) q.0;
+            table = tabled names known kind _ (numbers names known args) cs (at + 1) (a.sizes 1) p.1;
             constants = bounded names known kind w args codomain cs fits;
           },
           tt,

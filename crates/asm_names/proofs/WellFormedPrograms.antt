@@ -1,34 +1,24 @@
 -- A program without faults is well formed in numbers.
-use Rattle.std.proofs.Common.{◌≡◌, ℕ, true, [], length, MatchOption, Option, Some, None, refl, sym, ap, ◌∙◌, subst, arith}
-use Rattle.std.specs.Option.{option_map}
-use Rattle.asm_tree.specs.Programs.{Parts, IsProgram, IsLegalWithin}
-use Rattle.asm_tree.specs.declared.term.Term.{Term}
-use Rattle.asm_names.specs.declared.program.Resolved.{Resolved}
-use Rattle.asm_names.specs.declared.sort.Need.TheVariants as needs
-use Rattle.asm_names.specs.declared.sort.Sort.TheVariants as sorts
-use Rattle.asm_names.specs.Meanings.{Scope}
-use Rattle.asm_names.specs.Terms.{resolved_term}
-use Rattle.asm_names.specs.Programs.{names_of, legal_faults, program_faults, resolved_domains, resolved_funs}
+use Rattle.asm_names.proofs.Common.{◌≡◌, ℕ, true, [], MatchOption, Option, Some, None, refl, sym, ap, ◌∙◌, subst, arith, option_map, Parts, IsProgram, IsLegalWithin, Term, Resolved, Scope, resolved_term, names_of, legal_faults, program_faults, resolved_domains, resolved_funs, resolved_rule_binders, truth, is_truth, sort_of, rule_named, IsWellFormed}
 use Rattle.asm_names.specs.Resolving.{Resolves}
-use Rattle.asm_names.specs.ResolvedPlaces.{resolved_rule_binders}
-use Rattle.asm_names.specs.WellFormed.{truth, is_truth, sort_of, rule_named, IsWellFormed}
-use Rattle.asm_names.proofs.Known.{parts_clean, AllKnown}
+use Rattle.asm_names.proofs.Known.{three_clean, AllKnown}
 use Rattle.asm_names.proofs.WellFormedTerms.{as_wanted, term_judged}
 use Rattle.asm_names.proofs.WellFormedRules.{rule_judged}
 use Rattle.asm_names.proofs.WellFormedDeclarations.{declarations}
+use Rattle.asm_names.specs.declared.sort.Need.TheVariants as needs
+use Rattle.asm_names.specs.declared.sort.Sort.TheVariants as sorts
 
 pub well_formed : (parts : Parts) (r : Resolved) → IsProgram parts → program_faults parts ≡ [] → Resolves parts r → IsWellFormed r
 well_formed parts r program h is =
-    let p = parts_clean _ _ h in
-    let q = parts_clean _ _ p.1 in
+    let p = three_clean _ _ _ h in
     let names = names_of parts in
     let done = declarations (resolved_domains parts.decls) (resolved_funs [] parts.decls) parts.decls [] [] [] 3 tt refl refl refl refl program.decls p.0 in
     let known : AllKnown r.domains r.funs [] names = rw (is.domains, is.funs) done.all_known in
-    let rule = rule_judged parts.rule names _ 0 q.1 in
+    let rule = rule_judged parts.rule names _ 0 p.2 in
     record {
       domains = rw is.domains done.domains_fit;
       funs = rw (is.domains, is.funs) done.funs_fit;
-      legal = subst (λ o. MatchOption o (Unit {0}) (λ t. is_truth (sort_of r.funs [] t) ≡ true)) (sym is.legal) (by names known parts.legal _ program.legal q.0);
+      legal = subst (λ o. MatchOption o (Unit {0}) (λ t. is_truth (sort_of r.funs [] t) ≡ true)) (sym is.legal) (by names known parts.legal _ program.legal p.1);
       binders = is.binders ∙ (sym rule.1 ∙ ap resolved_rule_binders (sym is.rule));
       intervals = r.one_interval_each;
       rule = ap (λ u. rule_named r u [] 0) is.rule ∙ rule.2 r [] known tt (omega (arith, is.binders)) program.rule.fits;

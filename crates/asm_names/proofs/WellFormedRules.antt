@@ -1,42 +1,17 @@
 -- A rule without faults is well formed in numbers, and has as many tokens and binders.
-use Rattle.std.proofs.Common.{◌≡◌, ℕ, ◌+◌, ◌<◌, ◌≤◌, pos, Bool, true, false, is_some, nat_eq, ◌&&◌, List, [], ◌∷◌, map, length, Option, Some, None, refl, sym, ap, ◌∙◌, subst, arith}
-use Rattle.std.specs.Prelude.{slice_get, IfSome, sum}
-use Rattle.std.specs.List.{AllByRecursion}
-use Rattle.std.specs.Option.{option_map}
-use Rattle.std.proofs.lemmas.Bool.{and_parts, and_from, or_left, or_right, or_from, lt-ltb, eq-eqb, ne_eqb, not_from_false}
-use Rattle.std.proofs.lemmas.List.{length-map}
-use Rattle.std.proofs.lemmas.List.Sums.{sum_by-cons}
-use Rattle.asm_tree.specs.Forms.{term_fits, all_fit, option_fits, some_fit, rule_fits, rule_fits_by}
-use Rattle.asm_tree.specs.declared.decl.Kind.{Kind}
-use Rattle.asm_tree.specs.declared.decl.Kind.TheVariants as kinds
-use Rattle.asm_tree.specs.declared.term.Term.{Term}
-use Rattle.asm_tree.specs.declared.term.Op.TheVariants as ops
-use Rattle.asm_tree.specs.declared.rule.Rule.{Rule, Rule-F, roll-Rule, map-Rule, ind-Rule, fold-roll-Rule}
-use Rattle.asm_names.specs.declared.fault.NameFault.TheVariants as causes
-use Rattle.asm_names.specs.declared.program.Domain.{Domain as Values}
-use Rattle.asm_names.specs.declared.program.Fun.{Fun}
-use Rattle.asm_names.specs.declared.program.Resolved.{Resolved}
-use Rattle.asm_names.specs.declared.sort.Sort.{Sort}
-use Rattle.asm_names.specs.declared.sort.Sort.TheVariants as sorts
-use Rattle.asm_names.specs.declared.sort.Need.{Need}
-use Rattle.asm_names.specs.declared.sort.Need.TheVariants as needs
-use Rattle.asm_names.specs.declared.resolved_term.ResolvedTerm.{ResolvedTerm, ResolvedTerm-F}
-use Rattle.asm_names.specs.declared.resolved_term.ResolvedTerm.TheVariants as resolved_terms
-use Rattle.asm_names.specs.declared.resolved_rule.ResolvedRule.{ResolvedRule, ResolvedRule-F}
-use Rattle.asm_names.specs.declared.resolved_rule.ResolvedRule.TheVariants as resolved_rules
-use Rattle.asm_names.specs.Meanings.{Meaning, Domain, Enumerator, Function, Binder, Scope, meaning_of, number_of, sort_of_domain}
-use Rattle.asm_names.specs.Places.{term_tokens, rule_tokens, rule_binders, in_parentheses, with_tokens, led}
-use Rattle.asm_names.specs.TermFaults.{term_sort, term_faults}
-use Rattle.asm_names.specs.RuleFaults.{RulePart as Faulty, is_fixed, target_faults, target_need, target_sorts, domain_faults, bound as bound_in, guard_faults, each_rule_faults, rule_faults, rule_faults_by}
-use Rattle.asm_names.specs.Terms.{resolved_term}
-use Rattle.asm_names.specs.Rules.{RulePart as Made, always, resolved_guard, resolved_each, resolved_rule, resolved_rule_by}
-use Rattle.asm_names.specs.JudgingRules.{faulty, made, rule_layer_tokens, rule_layer_binders}
-use Rattle.asm_names.specs.ResolvedPlaces.{resolved_term_tokens, led_if, resolved_rule_tokens, resolved_rule_binders}
-use Rattle.asm_names.specs.WellFormed.{Sort as Form, truth, thing, Bound, in_scope, is_truth, is_thing, read_sort, sort_of, is_changing, is_zero_by, is_always_by, guard_stands, is_skip_by, else_stands, new_binder, each_named, rule_named}
+use Rattle.asm_names.proofs.Common.{◌≡◌, ℕ, ◌+◌, ◌<◌, ◌≤◌, pos, Bool, true, false, is_some, nat_eq, ◌&&◌, List, [], ◌∷◌, map, length, Option, Some, None, refl, sym, ap, ◌∙◌, subst, arith, slice_get, IfSome, sum, AllByRecursion, option_map, and_parts, and_from, or_left, or_right, or_from, lt-ltb, eq-eqb, ne_eqb, not_from_false, length-map, sum_by-cons, term_fits, all_fit, option_fits, some_fit, rule_fits_by, Kind, Term, Rule, Rule-F, roll-Rule, map-Rule, ind-Rule, fold-roll-Rule, Values, Fun, Resolved, Sort, Need, ResolvedTerm, ResolvedTerm-F, ResolvedRule, ResolvedRule-F, roll-ResolvedRule, map-ResolvedRule, Meaning, Function, Binder, Scope, meaning_of, number_of, sort_of_domain, term_tokens, rule_tokens, rule_binders, in_parentheses, with_tokens, led, term_sort, term_faults, Faulty, is_fixed, target_faults, target_need, target_sorts, domain_faults, bound_in, guard_faults, each_rule_faults, rule_faults, rule_faults_by, resolved_term, Made, always, resolved_guard, resolved_each, resolved_rule, resolved_rule_by, faulty, made, rule_layer_tokens, rule_layer_binders, resolved_term_tokens, led_if, resolved_rule_tokens, resolved_rule_tokens_by, resolved_rule_binders, resolved_rule_binders_by, Form, truth, thing, Bound, in_scope, is_truth, is_thing, read_sort, sort_of, is_changing, is_zero_by, is_always_by, guard_stands, is_skip_by, else_stands, new_binder, Named, named_by, each_named, rule_named}
+use Rattle.asm_tree.specs.Forms.{rule_fits}
 use Rattle.asm_names.proofs.RuleLevels.{tokens_of, binders_of, resolved_at, faults_at}
 use Rattle.asm_names.proofs.ResolvedLevels.{term_out_of, rule_out_of, sort_at, named, rule_tokens_of, binders_of as resolved_binders_of, named_at}
-use Rattle.asm_names.proofs.Known.{parts_clean, unmet, formed, wants, same-wants, IsThing, Known, AllKnown, known_at, names_domain, all-append}
+use Rattle.asm_names.proofs.Known.{parts_clean, three_clean, unmet, formed, wants, same-wants, IsThing, Known, AllKnown, known_at, names_domain, all-append}
 use Rattle.asm_names.proofs.WellFormedTerms.{Claim as TermClaim, counted, read, each, as_wanted, term_judged, tokens_kept}
+use Rattle.asm_tree.specs.declared.decl.Kind.TheVariants as kinds
+use Rattle.asm_tree.specs.declared.term.Op.TheVariants as ops
+use Rattle.asm_names.specs.declared.fault.NameFault.TheVariants as causes
+use Rattle.asm_names.specs.declared.sort.Sort.TheVariants as sorts
+use Rattle.asm_names.specs.declared.sort.Need.TheVariants as needs
+use Rattle.asm_names.specs.declared.resolved_term.ResolvedTerm.TheVariants as resolved_terms
+use Rattle.asm_names.specs.declared.resolved_rule.ResolvedRule.TheVariants as resolved_rules
 
 -- ---- binders
 
@@ -73,20 +48,17 @@ always_stands =
     ap is_always_by (term_out_of (ResolvedTerm-F.Binary ops.Eq zero_term zero_term) _ (resolved_terms.rolls-Binary _ _ _)) ∙ and_from _ _ zero_is zero_is
 
 free : (kind : Kind) → is_fixed kind ≡ false → is_changing kind ≡ true
-free kinds.Controlled h = refl
-free kinds.Output h = refl
 free kinds.Input h = cc
 free kinds.Static h = cc
+free _ h = refl
 
 module _ (program : Resolved) where
   abbrev IsKnown : Bound → Scope → Type 0
   IsKnown = AllKnown program.domains program.funs
 
   still_known : (b : ℕ) (bound : Bound) (m : Meaning) → Known program.domains program.funs bound m → Known program.domains program.funs (b ∷ bound) m
-  still_known b bound (Domain n size s) h = h
-  still_known b bound (Enumerator d i) h = h
-  still_known b bound (Function n kind args values) h = h
   still_known b bound (Binder n s) h = (or_right (nat_eq n b) (in_scope bound n) h.0, h.1)
+  still_known b bound _ h = h
 
   still_all : (b : ℕ) (bound : Bound) (names : Scope) → IsKnown bound names → IsKnown (b ∷ bound) names
   still_all b bound [] h = tt
@@ -136,9 +108,6 @@ module _ (program : Resolved) where
     pub value : wants (target_need m) ≡ Some thing
 
   updated : (m : Option Meaning) (bound : Bound) (many at : ℕ) → IfSome m (Known program.domains program.funs bound) → target_faults m many at ≡ [] → Updated m many
-  updated None bound many at k h = cc
-  updated (Some (Domain n size s)) bound many at k h = cc
-  updated (Some (Enumerator d i)) bound many at k h = cc
   updated (Some (Function n kind args values)) bound many at k h =
       let p = parts_clean _ _ h in
       let same : length args ≡ many = counted (length args) many at p.0 in
@@ -151,7 +120,7 @@ module _ (program : Resolved) where
         as_many = same;
         value = same-wants values ∙ k.things;
       }
-  updated (Some (Binder n s)) bound many at k h = cc
+  updated _ bound many at k h = cc
 
 -- ---- rules
 
@@ -182,12 +151,16 @@ claims : (rs : List Sound) → AllByRecursion Claim (map rule rs)
 claims [] = tt
 claims (r ∷ rs) = (r.1, claims rs)
 
+-- a rule in numbers with known parts
+built : (names : Scope) (before : ℕ) {k n : ℕ} {b : Bool} (x : ResolvedRule-F ResolvedRule) (r : ResolvedRule) → roll-ResolvedRule x ≡ r
+    → resolved_rule_tokens_by (map-ResolvedRule ResolvedRule ℕ resolved_rule_tokens x) ≡ k → resolved_rule_binders_by (map-ResolvedRule ResolvedRule ℕ resolved_rule_binders x) ≡ n
+    → ((program : Resolved) (bound : Bound) → IsKnown program bound names → AllBefore before bound → before + n ≤ program.binders → b ≡ true → named_by program (map-ResolvedRule ResolvedRule Named (named program) x) bound before ≡ true)
+    → Judged names before r k n b
+built names before x r e tokens binders holds =
+    (rule_tokens_of x r e ∙ tokens, resolved_binders_of x r e ∙ binders, λ program bound known order room fits. named_at x r e program bound before ∙ holds program bound known order room fits)
+
 skip : (names : Scope) (before : ℕ) → Judged names before resolved_rules.Skip 1 0 true
-skip names before = (
-  rule_tokens_of ResolvedRule-F.Skip _ resolved_rules.rolls-Skip,
-  resolved_binders_of ResolvedRule-F.Skip _ resolved_rules.rolls-Skip,
-  λ program bound known order room fits. named_at ResolvedRule-F.Skip _ resolved_rules.rolls-Skip program bound before,
-)
+skip names before = built names before ResolvedRule-F.Skip _ resolved_rules.rolls-Skip refl refl (λ program bound known order room fits. refl)
 
 -- a rule behind `else`, where there is one
 abbrev ElseJudged : Scope → ℕ → ResolvedRule → Bool → ℕ → ℕ → Bool → Type 0
@@ -205,19 +178,15 @@ conditional : (names : Scope) (at before : ℕ) (g : Term) (t e : ResolvedRule) 
     → term_faults names g (needs.Only sorts.Truth) at ≡ [] → Judged names before t k n b → ElseJudged names (before + n) e there j m c
     → Judged names before (resolved_rules.If (resolved_term names g) t e there) (1 + term_tokens g + 1 + k + j + 1) (n + m) (term_fits g && (b && c))
 conditional names at before g t e there k j n m b c clean one other =
-    let x = ResolvedRule-F.If (resolved_term names g) t e there in (
-      rule_tokens_of x _ (resolved_rules.rolls-If _ _ _ _) ∙ rw (tokens_kept names g (needs.Only sorts.Truth) at clean, one.0, other.0) refl,
-      resolved_binders_of x _ (resolved_rules.rolls-If _ _ _ _) ∙ rw (one.1, other.1) refl,
-      λ program bound known order room fits.
-          let u = and_parts _ _ fits in
-          let v = and_parts _ _ u.1 in
-          named_at x _ (resolved_rules.rolls-If _ _ _ _) program bound before
-          ∙ and_from _ _ other.3
-          (and_from _ _ (ap is_truth (as_asked program names g (needs.Only sorts.Truth) at clean bound truth refl known u.0).1)
-          (and_from _ _ (one.2 program bound known order (omega (arith, room)) v.0)
-          (subst (λ i. rule_named program e bound (before + i) ≡ true) (sym one.1)
-          (other.2 program bound known (later before (before + n) bound (omega arith) order) (omega (arith, room)) v.1)))),
-    )
+    built names before (ResolvedRule-F.If (resolved_term names g) t e there) _ (resolved_rules.rolls-If _ _ _ _) (rw (tokens_kept names g (needs.Only sorts.Truth) at clean, one.0, other.0) refl) (rw (one.1, other.1) refl)
+    (λ program bound known order room fits.
+    let u = and_parts _ _ fits in
+    let v = and_parts _ _ u.1 in
+    and_from _ _ other.3
+    (and_from _ _ (ap is_truth (as_asked program names g (needs.Only sorts.Truth) at clean bound truth refl known u.0).1)
+    (and_from _ _ (one.2 program bound known order (omega (arith, room)) v.0)
+    (subst (λ i. rule_named program e bound (before + i) ≡ true) (sym one.1)
+    (other.2 program bound known (later before (before + n) bound (omega arith) order) (omega (arith, room)) v.1)))))
 
 choosing : (names : Scope) (at guard_at before : ℕ) (v d : List ℕ) (g : Term) (t e : ResolvedRule) (there : Bool) (k j n m : ℕ) (b c : Bool) → domain_faults names d at ≡ []
     → term_faults (bound_in names v before (sort_of_domain (meaning_of names d))) g (needs.Only sorts.Truth) guard_at ≡ []
@@ -226,23 +195,20 @@ choosing : (names : Scope) (at guard_at before : ℕ) (v d : List ℕ) (g : Term
     (5 + term_tokens g + 1 + k + j + 1) (1 + n + m) (term_fits g && (b && c))
 choosing names at guard_at before v d g t e there k j n m b c ranges clean one other =
     let inner = bound_in names v before (sort_of_domain (meaning_of names d)) in
-    let x = ResolvedRule-F.Choose before (number_of (meaning_of names d)) (resolved_term inner g) t e there in (
-      rule_tokens_of x _ (resolved_rules.rolls-Choose _ _ _ _ _ _) ∙ rw (tokens_kept inner g (needs.Only sorts.Truth) guard_at clean, one.0, other.0) refl,
-      resolved_binders_of x _ (resolved_rules.rolls-Choose _ _ _ _ _ _) ∙ rw (one.1, other.1) refl,
-      λ program bound known order room fits.
-          let u = and_parts _ _ fits in
-          let w = and_parts _ _ u.1 in
-          let domain = names_domain program.domains program.funs bound names d at known ranges in
-          let known_inside = inside program before bound names v _ domain.things known in
-          named_at x _ (resolved_rules.rolls-Choose _ _ _ _ _ _) program bound before
-          ∙ and_from _ _ other.3
-          (and_from _ _ (new program before (n + m) bound order (omega (arith, room)))
-          (and_from _ _ (lt-ltb _ _ domain.inside)
-          (and_from _ _ (ap is_truth (as_asked program inner g (needs.Only sorts.Truth) guard_at clean (before ∷ bound) truth refl known_inside u.0).1)
-          (and_from _ _ (one.2 program (before ∷ bound) known_inside (inside_before before bound order) (omega (arith, room)) w.0)
-          (subst (λ i. rule_named program e bound (before + 1 + i) ≡ true) (sym one.1)
-          (other.2 program bound known (later before (before + 1 + n) bound (omega arith) order) (omega (arith, room)) w.1)))))),
-    )
+    built names before (ResolvedRule-F.Choose before (number_of (meaning_of names d)) (resolved_term inner g) t e there) _ (resolved_rules.rolls-Choose _ _ _ _ _ _)
+    (rw (tokens_kept inner g (needs.Only sorts.Truth) guard_at clean, one.0, other.0) refl) (rw (one.1, other.1) refl)
+    (λ program bound known order room fits.
+    let u = and_parts _ _ fits in
+    let w = and_parts _ _ u.1 in
+    let domain = names_domain program.domains program.funs bound names d at known ranges in
+    let known_inside = inside program before bound names v _ domain.things known in
+    and_from _ _ other.3
+    (and_from _ _ (new program before (n + m) bound order (omega (arith, room)))
+    (and_from _ _ (lt-ltb _ _ domain.inside)
+    (and_from _ _ (ap is_truth (as_asked program inner g (needs.Only sorts.Truth) guard_at clean (before ∷ bound) truth refl known_inside u.0).1)
+    (and_from _ _ (one.2 program (before ∷ bound) known_inside (inside_before before bound order) (omega (arith, room)) w.0)
+    (subst (λ i. rule_named program e bound (before + 1 + i) ≡ true) (sym one.1)
+    (other.2 program bound known (later before (before + 1 + n) bound (omega arith) order) (omega (arith, room)) w.1)))))))
 
 record AllJudged (names : Scope) (before : ℕ) (rs : List Rule) : Type 0 where
   pub tokens_kept : map resolved_rule_tokens (resolved_each names (map made rs) before) ≡ map rule_tokens rs
@@ -277,94 +243,73 @@ layer-in : (x : Rule-F Sound) → LayerClaim (map-Rule Sound Rule rule x)
 layer-in Rule-F.Skip names at before h = skip names before
 layer-in (Rule-F.Update w ts v) names at before h =
     let m = meaning_of names w in
-    let p = parts_clean _ _ h in
-    let q = parts_clean _ _ p.1 in
+    let p = three_clean _ _ _ h in
     let value_at = at + 1 + in_parentheses (map term_tokens ts) + 1 in
-    let x = ResolvedRule-F.Update (number_of m) (map (resolved_term names) ts) (resolved_term names v) in
-    let args = λ (domains : List Values) (funs : List Fun) (bound : Bound). each names domains funs bound (target_sorts m) ts (at + 2) (all_claims names domains funs bound ts) q.0 in (
-      rule_tokens_of x _ (resolved_rules.rolls-Update _ _ _) ∙ rw ((args [] [] []).tokens_kept, tokens_kept names v (target_need m) value_at q.1) refl,
-      resolved_binders_of x _ (resolved_rules.rolls-Update _ _ _),
-      λ program bound known order room fits.
-          let u = and_parts _ _ fits in
-          let f = updated program m bound (length ts) at (known_at program.domains program.funs bound names w known) p.0 in
-          let sorts = map (sort_of program.funs bound) (map (resolved_term names) ts) in
-          let many : length sorts ≡ length ts = length-map (map (resolved_term names) ts) (sort_of program.funs bound) ∙ length-map ts (resolved_term names) in
-          let all = (args program.domains program.funs bound).sorted known u.0 f.arguments f.as_many in
-          let reads : read_sort (slice_get program.funs (number_of m)) sorts ≡ Some thing = rw f.there (read f.entry sorts all (f.count ∙ sym many)) in
-          named_at x _ (resolved_rules.rolls-Update _ _ _) program bound before
-          ∙ and_from _ _ (rw f.there f.changing)
-          (and_from _ _ (ap is_thing reads)
-          (ap is_thing (as_asked program names v (target_need m) value_at q.1 bound thing f.value known u.1).1)),
-    )
+    let args = λ (domains : List Values) (funs : List Fun) (bound : Bound). each names domains funs bound (target_sorts m) ts (at + 2) (all_claims names domains funs bound ts) p.1 in
+    built names before (ResolvedRule-F.Update (number_of m) (map (resolved_term names) ts) (resolved_term names v)) _ (resolved_rules.rolls-Update _ _ _)
+    (rw ((args [] [] []).tokens_kept, tokens_kept names v (target_need m) value_at p.2) refl) refl
+    (λ program bound known order room fits.
+    let u = and_parts _ _ fits in
+    let f = updated program m bound (length ts) at (known_at program.domains program.funs bound names w known) p.0 in
+    let sorts = map (sort_of program.funs bound) (map (resolved_term names) ts) in
+    let many : length sorts ≡ length ts = length-map (map (resolved_term names) ts) (sort_of program.funs bound) ∙ length-map ts (resolved_term names) in
+    let all = (args program.domains program.funs bound).sorted known u.0 f.arguments f.as_many in
+    let reads : read_sort (slice_get program.funs (number_of m)) sorts ≡ Some thing = rw f.there (read f.entry sorts all (f.count ∙ sym many)) in
+    and_from _ _ (rw f.there f.changing)
+    (and_from _ _ (ap is_thing reads)
+    (ap is_thing (as_asked program names v (target_need m) value_at p.2 bound thing f.value known u.1).1)))
 layer-in (Rule-F.If g t None) names at before h =
-    let p = parts_clean _ _ h in
-    let q = parts_clean _ _ p.1 in
-    conditional names (at + 1) before g _ resolved_rules.Skip false _ _ _ _ _ _ p.0 (t.1 names (at + 1 + term_tokens g + 1) before q.0) (no_else names (before + rule_binders t.0))
+    let p = three_clean _ _ _ h in
+    conditional names (at + 1) before g _ resolved_rules.Skip false _ _ _ _ _ _ p.0 (t.1 names (at + 1 + term_tokens g + 1) before p.1) (no_else names (before + rule_binders t.0))
 layer-in (Rule-F.If g t (Some o)) names at before h =
-    let p = parts_clean _ _ h in
-    let q = parts_clean _ _ p.1 in
-    let other = o.1 names (at + 1 + term_tokens g + 1 + rule_tokens t.0 + 1) (before + rule_binders t.0) q.1 in
-    conditional names (at + 1) before g _ _ true _ _ _ _ _ _ p.0 (t.1 names (at + 1 + term_tokens g + 1) before q.0) (some_else names _ _ _ _ _ other)
+    let p = three_clean _ _ _ h in
+    let other = o.1 names (at + 1 + term_tokens g + 1 + rule_tokens t.0 + 1) (before + rule_binders t.0) p.2 in
+    conditional names (at + 1) before g _ _ true _ _ _ _ _ _ p.0 (t.1 names (at + 1 + term_tokens g + 1) before p.1) (some_else names _ _ _ _ _ other)
 layer-in (Rule-F.Par rs) names at before h =
     let all = in_turn (map rule rs) names at before (claims rs) h in
-    let x = ResolvedRule-F.Par (resolved_each names (map made (map rule rs)) before) in (
-      rule_tokens_of x _ (resolved_rules.rolls-Par _) ∙ ap (λ ns. led ns + 1) all.tokens_kept,
-      resolved_binders_of x _ (resolved_rules.rolls-Par _) ∙ ap sum all.binders_kept,
-      λ program bound known order room fits. named_at x _ (resolved_rules.rolls-Par _) program bound before ∙ all.holds program bound known order room (all_of_some (map rule_fits (map rule rs)) fits),
-    )
+    built names before (ResolvedRule-F.Par (resolved_each names (map made (map rule rs)) before)) _ (resolved_rules.rolls-Par _) (ap (λ ns. led ns + 1) all.tokens_kept) (ap sum all.binders_kept)
+    (λ program bound known order room fits. all.holds program bound known order room (all_of_some (map rule_fits (map rule rs)) fits))
 layer-in (Rule-F.Forall v d g b) names at before h =
-    let p = parts_clean _ _ h in
-    let q = parts_clean _ _ p.1 in
-    let u = parts_clean _ _ q.1 in
+    let p = three_clean _ _ _ h in
+    let u = parts_clean _ _ p.2 in
     let inner = bound_in names v before (sort_of_domain (meaning_of names d)) in
     let guard = guard_kept inner g (at + 5) u.0 in
     let body = b.1 inner (at + 4 + with_tokens g + 1) (before + 1) u.1 in
-    let x = ResolvedRule-F.Forall before (number_of (meaning_of names d)) (resolved_guard inner g) (is_some g) (resolved_rule b.0 inner (before + 1)) in (
-      rule_tokens_of x _ (resolved_rules.rolls-Forall _ _ _ _ _) ∙ rw (guard.0, body.0) refl,
-      resolved_binders_of x _ (resolved_rules.rolls-Forall _ _ _ _ _) ∙ ap (λ n. 1 + n) body.1,
-      λ program bound known order room fits.
-          let w = and_parts _ _ fits in
-          let domain = names_domain program.domains program.funs bound names d (at + 3) known q.0 in
-          let known_inside = inside program before bound names v _ domain.things known in
-          named_at x _ (resolved_rules.rolls-Forall _ _ _ _ _) program bound before
-          ∙ and_from _ _ guard.1
-          (and_from _ _ (new program before (rule_binders b.0) bound order room)
-          (and_from _ _ (lt-ltb _ _ domain.inside)
-          (and_from _ _ (ap is_truth (guarded program inner g (at + 5) u.0 (before ∷ bound) known_inside w.0))
-          (body.2 program (before ∷ bound) known_inside (inside_before before bound order) (room_inside before (rule_binders b.0) program.binders room) w.1)))),
-    )
+    built names before (ResolvedRule-F.Forall before (number_of (meaning_of names d)) (resolved_guard inner g) (is_some g) (resolved_rule b.0 inner (before + 1))) _ (resolved_rules.rolls-Forall _ _ _ _ _)
+    (rw (guard.0, body.0) refl) (ap (λ n. 1 + n) body.1)
+    (λ program bound known order room fits.
+    let w = and_parts _ _ fits in
+    let domain = names_domain program.domains program.funs bound names d (at + 3) known p.1 in
+    let known_inside = inside program before bound names v _ domain.things known in
+    and_from _ _ guard.1
+    (and_from _ _ (new program before (rule_binders b.0) bound order room)
+    (and_from _ _ (lt-ltb _ _ domain.inside)
+    (and_from _ _ (ap is_truth (guarded program inner g (at + 5) u.0 (before ∷ bound) known_inside w.0))
+    (body.2 program (before ∷ bound) known_inside (inside_before before bound order) (room_inside before (rule_binders b.0) program.binders room) w.1)))))
 layer-in (Rule-F.Choose v d g b None) names at before h =
-    let p = parts_clean _ _ h in
-    let q = parts_clean _ _ p.1 in
-    let u = parts_clean _ _ q.1 in
-    let w = parts_clean _ _ u.1 in
+    let p = three_clean _ _ _ h in
+    let u = three_clean _ _ _ p.2 in
     let inner = bound_in names v before (sort_of_domain (meaning_of names d)) in
-    choosing names (at + 3) (at + 5) before v d g _ resolved_rules.Skip false _ _ _ _ _ _ q.0 u.0 (b.1 inner (at + 5 + term_tokens g + 1) (before + 1) w.0) (no_else names (before + 1 + rule_binders b.0))
+    choosing names (at + 3) (at + 5) before v d g _ resolved_rules.Skip false _ _ _ _ _ _ p.1 u.0 (b.1 inner (at + 5 + term_tokens g + 1) (before + 1) u.1) (no_else names (before + 1 + rule_binders b.0))
 layer-in (Rule-F.Choose v d g b (Some o)) names at before h =
-    let p = parts_clean _ _ h in
-    let q = parts_clean _ _ p.1 in
-    let u = parts_clean _ _ q.1 in
-    let w = parts_clean _ _ u.1 in
+    let p = three_clean _ _ _ h in
+    let u = three_clean _ _ _ p.2 in
     let inner = bound_in names v before (sort_of_domain (meaning_of names d)) in
     let body_at = at + 5 + term_tokens g + 1 in
-    let other = o.1 names (body_at + rule_tokens b.0 + 1) (before + 1 + rule_binders b.0) w.1 in
-    choosing names (at + 3) (at + 5) before v d g _ _ true _ _ _ _ _ _ q.0 u.0 (b.1 inner body_at (before + 1) w.0) (some_else names _ _ _ _ _ other)
+    let other = o.1 names (body_at + rule_tokens b.0 + 1) (before + 1 + rule_binders b.0) u.2 in
+    choosing names (at + 3) (at + 5) before v d g _ _ true _ _ _ _ _ _ p.1 u.0 (b.1 inner body_at (before + 1) u.1) (some_else names _ _ _ _ _ other)
 layer-in (Rule-F.Let v t b) names at before h =
-    let p = parts_clean _ _ h in
-    let q = parts_clean _ _ p.1 in
+    let p = three_clean _ _ _ h in
     let inner = bound_in names v before (term_sort names t) in
-    let body = b.1 inner (at + 3 + term_tokens t + 1) (before + 1) q.1 in
-    let x = ResolvedRule-F.Let before (resolved_term names t) (resolved_rule b.0 inner (before + 1)) in (
-      rule_tokens_of x _ (resolved_rules.rolls-Let _ _ _) ∙ rw (tokens_kept names t needs.NotTruth (at + 3) q.0, body.0) refl,
-      resolved_binders_of x _ (resolved_rules.rolls-Let _ _ _) ∙ ap (λ n. 1 + n) body.1,
-      λ program bound known order room fits.
-          let w = and_parts _ _ fits in
-          let value = as_asked program names t needs.NotTruth (at + 3) q.0 bound thing refl known w.0 in
-          named_at x _ (resolved_rules.rolls-Let _ _ _) program bound before
-          ∙ and_from _ _ (new program before (rule_binders b.0) bound order room)
-          (and_from _ _ (ap is_thing value.1)
-          (body.2 program (before ∷ bound) (inside program before bound names v _ value.0 known) (inside_before before bound order) (room_inside before (rule_binders b.0) program.binders room) w.1)),
-    )
+    let body = b.1 inner (at + 3 + term_tokens t + 1) (before + 1) p.2 in
+    built names before (ResolvedRule-F.Let before (resolved_term names t) (resolved_rule b.0 inner (before + 1))) _ (resolved_rules.rolls-Let _ _ _)
+    (rw (tokens_kept names t needs.NotTruth (at + 3) p.1, body.0) refl) (ap (λ n. 1 + n) body.1)
+    (λ program bound known order room fits.
+    let w = and_parts _ _ fits in
+    let value = as_asked program names t needs.NotTruth (at + 3) p.1 bound thing refl known w.0 in
+    and_from _ _ (new program before (rule_binders b.0) bound order room)
+    (and_from _ _ (ap is_thing value.1)
+    (body.2 program (before ∷ bound) (inside program before bound names v _ value.0 known) (inside_before before bound order) (room_inside before (rule_binders b.0) program.binders room) w.1)))
 
 rolled : (x : Rule-F Rule) → LayerClaim x → Claim (roll-Rule x)
 unfolding rule_fits

@@ -1,33 +1,14 @@
 -- A term without faults is well formed in numbers, and has as many tokens.
-use Rattle.std.proofs.Common.{◌≡◌, ℕ, ◌+◌, pos, Bool, true, false, List, [], ◌∷◌, map, length, Option, Some, None, refl, sym, ◌∙◌, subst, arith}
-use Rattle.std.specs.Prelude.{IfSome}
-use Rattle.std.specs.List.{list_all, AllByRecursion}
-use Rattle.std.proofs.lemmas.Bool.{and_parts, le-leb, eq-eqb, eqb-true, not-false}
-use Rattle.std.proofs.lemmas.List.{length-map}
-use Rattle.asm_tree.specs.Forms.{term_fits, term_fits_by, all_fit}
-use Rattle.asm_tree.specs.declared.term.Op.{Op}
-use Rattle.asm_tree.specs.declared.term.Op.TheVariants as ops
-use Rattle.asm_tree.specs.declared.term.Term.{Term, Term-F, roll-Term, map-Term, ind-Term, fold-roll-Term}
-use Rattle.asm_names.specs.declared.fault.NameFault.TheVariants as causes
-use Rattle.asm_names.specs.declared.program.Domain.{Domain as Values}
-use Rattle.asm_names.specs.declared.program.Fun.{Fun}
-use Rattle.asm_names.specs.declared.sort.Sort.{Sort}
-use Rattle.asm_names.specs.declared.sort.Sort.TheVariants as sorts
-use Rattle.asm_names.specs.declared.sort.Need.{Need}
-use Rattle.asm_names.specs.declared.sort.Need.TheVariants as needs
-use Rattle.asm_names.specs.declared.resolved_term.ResolvedTerm.{ResolvedTerm, ResolvedTerm-F}
-use Rattle.asm_names.specs.declared.resolved_term.ResolvedTerm.TheVariants as resolved_terms
-use Rattle.asm_names.specs.Sorts.{same_as, refuses, op_sort, left_need, right_need}
-use Rattle.asm_names.specs.Meanings.{Meaning, Domain, Enumerator, Function, Binder, Scope, meaning_of, sort_of as sort_of_name, arity_of, argument_sorts}
-use Rattle.asm_names.specs.Places.{term_tokens, in_parentheses}
-use Rattle.asm_names.specs.TermFaults.{Part, count_faults, each_faults, term_sort, term_sort_by, term_faults, term_faults_by}
-use Rattle.asm_names.specs.Terms.{resolved_term, resolved_term_by, resolved_name}
-use Rattle.asm_names.specs.Judging.{part, layer_tokens}
-use Rattle.asm_names.specs.ResolvedPlaces.{resolved_term_tokens}
-use Rattle.asm_names.specs.WellFormed.{Sort as Form, truth, thing, Bound, is_thing, binary_sort, read_sort, sort_of}
+use Rattle.asm_names.proofs.Common.{◌≡◌, ℕ, ◌+◌, pos, Bool, true, false, List, [], ◌∷◌, map, length, Option, Some, refl, sym, ◌∙◌, subst, arith, IfSome, list_all, AllByRecursion, and_parts, le-leb, eq-eqb, eqb-true, not-false, length-map, term_fits_by, all_fit, Op, Term, Term-F, roll-Term, map-Term, ind-Term, fold-roll-Term, Values, Fun, Sort, Need, ResolvedTerm, ResolvedTerm-F, roll-ResolvedTerm, map-ResolvedTerm, same_as, refuses, op_sort, left_need, right_need, Meaning, Enumerator, Function, Binder, Scope, meaning_of, sort_of_name, arity_of, argument_sorts, term_tokens, in_parentheses, Part, count_faults, each_faults, term_sort, term_sort_by, term_faults, term_faults_by, resolved_term, resolved_term_by, resolved_name, part, layer_tokens, resolved_term_tokens, resolved_term_tokens_by, Form, truth, thing, Bound, is_thing, binary_sort, read_sort, sort_of, sort_by}
+use Rattle.asm_tree.specs.Forms.{term_fits}
 use Rattle.asm_names.proofs.Levels.{tokens_of, sort_at, resolved_at, faults_at}
 use Rattle.asm_names.proofs.ResolvedLevels.{term_tokens_of, sort_at as form_at}
-use Rattle.asm_names.proofs.Known.{parts_clean, unmet, formed, wants, same-wants, met, IsThing, Known, AllKnown, known_at}
+use Rattle.asm_names.proofs.Known.{parts_clean, three_clean, unmet, formed, wants, same-wants, met, IsThing, Known, AllKnown, known_at}
+use Rattle.asm_tree.specs.declared.term.Op.TheVariants as ops
+use Rattle.asm_names.specs.declared.fault.NameFault.TheVariants as causes
+use Rattle.asm_names.specs.declared.sort.Sort.TheVariants as sorts
+use Rattle.asm_names.specs.declared.sort.Need.TheVariants as needs
+use Rattle.asm_names.specs.declared.resolved_term.ResolvedTerm.TheVariants as resolved_terms
 
 -- ---- operators
 
@@ -128,119 +109,82 @@ module _ (names : Scope) (domains : List Values) (funs : List Fun) (bound : Boun
   alone [] h = refl
   alone (t ∷ ts) h = absurd (omega (arith, h))
 
+  -- a term in numbers with known parts
+  made : {need : Need} {s : Option Sort} {k : ℕ} {b : Bool} (x : ResolvedTerm-F ResolvedTerm) (n : ResolvedTerm) → roll-ResolvedTerm x ≡ n → resolved_term_tokens_by (map-ResolvedTerm ResolvedTerm ℕ resolved_term_tokens x) ≡ k
+      → refuses need s ≡ false → (AllKnown domains funs bound names → b ≡ true → (f : Form) × ((formed s ≡ Some f) × (sort_by funs bound (map-ResolvedTerm ResolvedTerm (Option Form) (sort_of funs bound) x) ≡ Some f)))
+      → Judged need n s k b
+  made x n e tokens wanted sorted = record {
+    tokens_kept = term_tokens_of x n e ∙ tokens;
+    wanted = wanted;
+    sorted = λ known fits. let j = sorted known fits in (j.0, (j.1.0, form_at x n e funs bound ∙ j.1.1));
+  }
+
   applied : (m : Option Meaning) (ts : List Term) (need : Need) (at : ℕ) → (AllKnown domains funs bound names → IfSome m (Known domains funs bound)) → AllByRecursion Claim ts
       → count_faults (arity_of m) (length (map (part names) ts)) at ≡ [] → refuses need (sort_of_name m) ≡ false → each_faults (argument_sorts m) (map (part names) ts) (at + 2) ≡ []
       → Judged need (resolved_name m (map (resolved_term names) ts)) (sort_of_name m) (1 + in_parentheses (map term_tokens ts)) (all_fit (map term_fits ts))
-  applied None ts need at known parts count wanted inner = cc
-  applied (Some (Domain n size s)) ts need at known parts count wanted inner = cc
   applied (Some (Enumerator d i)) ts need at known parts count wanted inner =
-      let x = ResolvedTerm-F.Number (pos i) in
-      record {
-        tokens_kept = term_tokens_of x _ (resolved_terms.rolls-Number (pos i)) ∙ rw (alone ts (counted 0 _ at count ∙ length-map ts (part names))) refl;
-        wanted = wanted;
-        sorted = λ all fits. (thing, (refl, form_at x _ (resolved_terms.rolls-Number (pos i)) funs bound ∙ rw (le-leb i 2147483647 (omega (arith, known all))) refl));
-      }
+      made (ResolvedTerm-F.Number (pos i)) _ (resolved_terms.rolls-Number (pos i)) (rw (alone ts (counted 0 _ at count ∙ length-map ts (part names))) refl) wanted
+      (λ all fits. (thing, (refl, rw (le-leb i 2147483647 (omega (arith, known all))) refl)))
   applied (Some (Function n kind args values)) ts need at known parts count wanted inner =
-      let x = ResolvedTerm-F.Read n (map (resolved_term names) ts) in
       let many : length args ≡ length ts = counted (length args) _ at count ∙ length-map ts (part names) in
       let all_judged = each args ts (at + 2) parts inner in
-      record {
-        tokens_kept = term_tokens_of x _ (resolved_terms.rolls-Read _ _) ∙ rw (all_judged.tokens_kept) refl;
-        wanted = wanted;
-        sorted = λ all fits.
-            let f = known all in
-            let forms = map (sort_of funs bound) (map (resolved_term names) ts) in
-            let as_many : length forms ≡ length ts = length-map (map (resolved_term names) ts) (sort_of funs bound) ∙ length-map ts (resolved_term names) in
-            let reads = read f.entry forms (all_judged.sorted all fits f.arguments many) (f.count ∙ (many ∙ sym as_many)) in
-            (thing, (f.things, form_at x _ (resolved_terms.rolls-Read _ _) funs bound ∙ rw f.there reads));
-      }
+      made (ResolvedTerm-F.Read n (map (resolved_term names) ts)) _ (resolved_terms.rolls-Read _ _) (rw all_judged.tokens_kept refl) wanted
+      (λ all fits.
+      let f = known all in
+      let forms = map (sort_of funs bound) (map (resolved_term names) ts) in
+      let as_many : length forms ≡ length ts = length-map (map (resolved_term names) ts) (sort_of funs bound) ∙ length-map ts (resolved_term names) in
+      (thing, (f.things, rw f.there (read f.entry forms (all_judged.sorted all fits f.arguments many) (f.count ∙ (many ∙ sym as_many))))))
   applied (Some (Binder n s)) ts need at known parts count wanted inner =
-      let x = ResolvedTerm-F.Var n in
-      record {
-        tokens_kept = term_tokens_of x _ (resolved_terms.rolls-Var n) ∙ rw (alone ts (counted 0 _ at count ∙ length-map ts (part names))) refl;
-        wanted = wanted;
-        sorted = λ all fits. (thing, ((known all).1, form_at x _ (resolved_terms.rolls-Var n) funs bound ∙ rw ((known all).0) refl));
-      }
+      made (ResolvedTerm-F.Var n) _ (resolved_terms.rolls-Var n) (rw (alone ts (counted 0 _ at count ∙ length-map ts (part names))) refl) wanted (λ all fits. (thing, ((known all).1, rw ((known all).0) refl)))
+  applied _ ts need at known parts count wanted inner = cc
 
   layer-in : (x : Term-F Sound) → LayerClaim (map-Term Sound Term term x)
-  layer-in (Term-F.Number v) need at h = record {
-    tokens_kept = term_tokens_of (ResolvedTerm-F.Number (pos v)) _ (resolved_terms.rolls-Number (pos v));
-    wanted = unmet causes.Sort at _ (parts_clean _ _ h).0;
-    sorted = λ known fits. (thing, (refl, form_at (ResolvedTerm-F.Number (pos v)) _ (resolved_terms.rolls-Number (pos v)) funs bound ∙ rw fits refl));
-  }
+  layer-in (Term-F.Number v) need at h =
+      made (ResolvedTerm-F.Number (pos v)) _ (resolved_terms.rolls-Number (pos v)) refl (unmet causes.Sort at _ (parts_clean _ _ h).0) (λ known fits. (thing, (refl, rw fits refl)))
   layer-in (Term-F.Apply w ts) need at h =
-      let p = parts_clean _ _ h in
-      let q = parts_clean _ _ p.1 in
-      applied (meaning_of names w) (map term ts) need at (known_at domains funs bound names w) (claims ts) p.0 (unmet causes.Sort at _ q.0) q.1
+      let p = three_clean _ _ _ h in
+      applied (meaning_of names w) (map term ts) need at (known_at domains funs bound names w) (claims ts) p.0 (unmet causes.Sort at _ p.1) p.2
   layer-in (Term-F.Binary o l r) need at h =
-      let p = parts_clean _ _ h in
-      let q = parts_clean _ _ p.1 in
-      let a = l.1 (left_need o) (at + 1) q.0 in
-      let b = r.1 (right_need o (term_sort names l.0)) (at + 1 + term_tokens l.0 + 1) q.1 in
-      let x = ResolvedTerm-F.Binary o (resolved_term names l.0) (resolved_term names r.0) in
-      record {
-        tokens_kept = term_tokens_of x _ (resolved_terms.rolls-Binary _ _ _) ∙ rw (a.tokens_kept, b.tokens_kept) refl;
-        wanted = unmet causes.Sort at _ p.0;
-        sorted = λ known fits.
-            let u = and_parts _ _ fits in
-            let left = as_wanted a (side o) (left-wants o) known u.0 in
-            let right = as_wanted b (side o) (right-wants o _ left.0) known u.1 in
-            let j = joined o in
-            (j.0, (j.1.0, form_at x _ (resolved_terms.rolls-Binary _ _ _) funs bound ∙ rw (left.1, right.1) j.1.1));
-      }
+      let p = three_clean _ _ _ h in
+      let a = l.1 (left_need o) (at + 1) p.1 in
+      let b = r.1 (right_need o (term_sort names l.0)) (at + 1 + term_tokens l.0 + 1) p.2 in
+      made (ResolvedTerm-F.Binary o (resolved_term names l.0) (resolved_term names r.0)) _ (resolved_terms.rolls-Binary _ _ _) (rw (a.tokens_kept, b.tokens_kept) refl) (unmet causes.Sort at _ p.0)
+      (λ known fits.
+      let u = and_parts _ _ fits in
+      let left = as_wanted a (side o) (left-wants o) known u.0 in
+      let right = as_wanted b (side o) (right-wants o _ left.0) known u.1 in
+      let j = joined o in
+      (j.0, (j.1.0, rw (left.1, right.1) j.1.1)))
   layer-in (Term-F.Not t) need at h =
       let p = parts_clean _ _ h in
       let a = t.1 (needs.Only sorts.Truth) (at + 1) p.1 in
-      let x = ResolvedTerm-F.Not (resolved_term names t.0) in
-      record {
-        tokens_kept = term_tokens_of x _ (resolved_terms.rolls-Not _) ∙ rw (a.tokens_kept) refl;
-        wanted = unmet causes.Sort at _ p.0;
-        sorted = λ known fits. (truth, (refl, form_at x _ (resolved_terms.rolls-Not _) funs bound ∙ rw ((as_wanted a truth refl known fits).1) refl));
-      }
+      made (ResolvedTerm-F.Not (resolved_term names t.0)) _ (resolved_terms.rolls-Not _) (rw (a.tokens_kept) refl) (unmet causes.Sort at _ p.0)
+      (λ known fits. (truth, (refl, rw ((as_wanted a truth refl known fits).1) refl)))
   layer-in (Term-F.Min l r) need at h =
-      let p = parts_clean _ _ h in
-      let q = parts_clean _ _ p.1 in
-      let a = l.1 (needs.Only sorts.Int) (at + 2) q.0 in
-      let b = r.1 (needs.Only sorts.Int) (at + 2 + term_tokens l.0 + 1) q.1 in
-      let x = ResolvedTerm-F.Min (resolved_term names l.0) (resolved_term names r.0) in
-      record {
-        tokens_kept = term_tokens_of x _ (resolved_terms.rolls-Min _ _) ∙ rw (a.tokens_kept, b.tokens_kept) refl;
-        wanted = unmet causes.Sort at _ p.0;
-        sorted = λ known fits.
-            let u = and_parts _ _ fits in
-            (thing, (refl, form_at x _ (resolved_terms.rolls-Min _ _) funs bound ∙ rw ((as_wanted a thing refl known u.0).1, (as_wanted b thing refl known u.1).1) refl));
-      }
+      let p = three_clean _ _ _ h in
+      let a = l.1 (needs.Only sorts.Int) (at + 2) p.1 in
+      let b = r.1 (needs.Only sorts.Int) (at + 2 + term_tokens l.0 + 1) p.2 in
+      made (ResolvedTerm-F.Min (resolved_term names l.0) (resolved_term names r.0)) _ (resolved_terms.rolls-Min _ _) (rw (a.tokens_kept, b.tokens_kept) refl) (unmet causes.Sort at _ p.0)
+      (λ known fits. let u = and_parts _ _ fits in (thing, (refl, rw ((as_wanted a thing refl known u.0).1, (as_wanted b thing refl known u.1).1) refl)))
   layer-in (Term-F.Max l r) need at h =
-      let p = parts_clean _ _ h in
-      let q = parts_clean _ _ p.1 in
-      let a = l.1 (needs.Only sorts.Int) (at + 2) q.0 in
-      let b = r.1 (needs.Only sorts.Int) (at + 2 + term_tokens l.0 + 1) q.1 in
-      let x = ResolvedTerm-F.Max (resolved_term names l.0) (resolved_term names r.0) in
-      record {
-        tokens_kept = term_tokens_of x _ (resolved_terms.rolls-Max _ _) ∙ rw (a.tokens_kept, b.tokens_kept) refl;
-        wanted = unmet causes.Sort at _ p.0;
-        sorted = λ known fits.
-            let u = and_parts _ _ fits in
-            (thing, (refl, form_at x _ (resolved_terms.rolls-Max _ _) funs bound ∙ rw ((as_wanted a thing refl known u.0).1, (as_wanted b thing refl known u.1).1) refl));
-      }
+      let p = three_clean _ _ _ h in
+      let a = l.1 (needs.Only sorts.Int) (at + 2) p.1 in
+      let b = r.1 (needs.Only sorts.Int) (at + 2 + term_tokens l.0 + 1) p.2 in
+      made (ResolvedTerm-F.Max (resolved_term names l.0) (resolved_term names r.0)) _ (resolved_terms.rolls-Max _ _) (rw (a.tokens_kept, b.tokens_kept) refl) (unmet causes.Sort at _ p.0)
+      (λ known fits. let u = and_parts _ _ fits in (thing, (refl, rw ((as_wanted a thing refl known u.0).1, (as_wanted b thing refl known u.1).1) refl)))
   layer-in (Term-F.Cond g l r) need at h =
-      let p = parts_clean _ _ h in
-      let q = parts_clean _ _ p.1 in
-      let v = parts_clean _ _ q.1 in
-      let a = g.1 (needs.Only sorts.Truth) (at + 2) q.0 in
+      let p = three_clean _ _ _ h in
+      let v = parts_clean _ _ p.2 in
+      let a = g.1 (needs.Only sorts.Truth) (at + 2) p.1 in
       let b = l.1 needs.NotTruth (at + 2 + term_tokens g.0 + 1) v.0 in
       let c = r.1 (same_as (term_sort names l.0)) (at + 2 + term_tokens g.0 + 1 + term_tokens l.0 + 1) v.1 in
-      let x = ResolvedTerm-F.Cond (resolved_term names g.0) (resolved_term names l.0) (resolved_term names r.0) in
-      record {
-        tokens_kept = term_tokens_of x _ (resolved_terms.rolls-Cond _ _ _) ∙ rw (a.tokens_kept, b.tokens_kept, c.tokens_kept) refl;
-        wanted = unmet causes.Sort at _ p.0;
-        sorted = λ known fits.
-            let u = and_parts _ _ fits in
-            let w = and_parts _ _ u.1 in
-            let first = as_wanted b thing refl known w.0 in
-            let second = as_wanted c thing (same-wants _ ∙ first.0) known w.1 in
-            (thing, (first.0, form_at x _ (resolved_terms.rolls-Cond _ _ _) funs bound ∙ rw ((as_wanted a truth refl known u.0).1, first.1, second.1) refl));
-      }
+      made (ResolvedTerm-F.Cond (resolved_term names g.0) (resolved_term names l.0) (resolved_term names r.0)) _ (resolved_terms.rolls-Cond _ _ _) (rw (a.tokens_kept, b.tokens_kept, c.tokens_kept) refl) (unmet causes.Sort at _ p.0)
+      (λ known fits.
+      let u = and_parts _ _ fits in
+      let w = and_parts _ _ u.1 in
+      let first = as_wanted b thing refl known w.0 in
+      let second = as_wanted c thing (same-wants _ ∙ first.0) known w.1 in
+      (thing, (first.0, rw ((as_wanted a truth refl known u.0).1, first.1, second.1) refl)))
 
   rolled : (x : Term-F Term) → LayerClaim x → Claim (roll-Term x)
   unfolding term_fits

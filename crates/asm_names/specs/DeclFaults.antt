@@ -46,17 +46,11 @@ times_sizes n [] = Some n
 times_sizes n (None ∷ sizes) = None
 times_sizes n (Some size ∷ sizes) = times_sizes (n * size) sizes
 
--- the fault of a table with so many constants, where the product of the sizes is known
-abbrev pub length_faults : Option ℕ → ℕ → ℕ → List Fault
-length_faults None count at = []
-length_faults (Some product) count at = fault causes.Count at (not (nat_eq product count))
-
--- the fault of a function of this kind with so many constants; only a static function has a table
+-- the fault of a function of this kind with so many constants, where the product of the sizes is known; only a static
+-- function has a table
 abbrev pub table_faults : Kind → Option ℕ → ℕ → ℕ → List Fault
-table_faults kinds.Static product count at = length_faults product count at
-table_faults kinds.Controlled product count at = []
-table_faults kinds.Input product count at = []
-table_faults kinds.Output product count at = []
+table_faults kinds.Static (Some product) count at = fault causes.Count at (not (nat_eq product count))
+table_faults _ product count at = []
 
 -- the constants of a static function; other functions have none
 abbrev pub constants_of : Kind → List Const → List Const

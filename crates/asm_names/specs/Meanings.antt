@@ -23,27 +23,22 @@ meaning_of scope name = lookup (bytes_eq name) scope
 
 -- the sort of a name in a term
 abbrev pub sort_of : Option Meaning → Option Sort
-sort_of None = None
-sort_of (Some (Domain number size sort)) = None
 sort_of (Some (Enumerator domain index)) = Some (sorts.List domain)
 sort_of (Some (Function number kind args values)) = values
 sort_of (Some (Binder number sort)) = sort
+sort_of _ = None
 
 -- how many terms a name takes in a term, and none where it may not stand there
 abbrev pub arity_of : Option Meaning → Option ℕ
-arity_of None = None
-arity_of (Some (Domain number size sort)) = None
 arity_of (Some (Enumerator domain index)) = Some 0
 arity_of (Some (Function number kind args values)) = Some (length args)
 arity_of (Some (Binder number sort)) = Some 0
+arity_of _ = None
 
 -- the sorts of the terms that a name takes
 abbrev pub argument_sorts : Option Meaning → List (Option Sort)
-argument_sorts None = []
-argument_sorts (Some (Domain number size sort)) = []
-argument_sorts (Some (Enumerator domain index)) = []
 argument_sorts (Some (Function number kind args values)) = args
-argument_sorts (Some (Binder number sort)) = []
+argument_sorts _ = []
 
 -- the sort of a domain's names or numbers, where the name is one of a domain
 abbrev pub sort_of_domain : Option Meaning → Option Sort

@@ -14,5 +14,6 @@ Ascending (f ∷ fs) = AllByRecursion (Before f) fs × Ascending fs
 
 -- faults in order, at tokens from one number up to another
 pub record Spans (from to : ℕ) (faults : List Fault) : Type 0 where
+  pub order : from ≤ to
   pub inside : AllByRecursion (λ f. (from ≤ f.0) × (f.0 < to)) faults
   pub ascending : Ascending faults

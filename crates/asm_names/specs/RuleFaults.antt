@@ -24,10 +24,9 @@ parts scope = map (λ t. (t, term_faults scope t))
 
 -- whether no rule may update functions of this kind
 abbrev pub is_fixed : Kind → Bool
-is_fixed kinds.Controlled = false
 is_fixed kinds.Input = true
-is_fixed kinds.Output = false
 is_fixed kinds.Static = true
+is_fixed _ = false
 
 -- faults of the name of an updated function, with so many terms behind it
 abbrev pub target_faults : Option Meaning → ℕ → ℕ → List Fault

@@ -30,37 +30,18 @@ refuses (needs.Only needed) (Some sort) = not (same_sort needed sort)
 abbrev pub op_sort : Op → Sort
 op_sort ops.Add = sorts.Int
 op_sort ops.Sub = sorts.Int
-op_sort ops.Eq = sorts.Truth
-op_sort ops.Ne = sorts.Truth
-op_sort ops.Lt = sorts.Truth
-op_sort ops.Le = sorts.Truth
-op_sort ops.Gt = sorts.Truth
-op_sort ops.Ge = sorts.Truth
-op_sort ops.And = sorts.Truth
-op_sort ops.Or = sorts.Truth
+op_sort _ = sorts.Truth
 
 -- what the operator needs of the term before it
 abbrev pub left_need : Op → Need
-left_need ops.Add = needs.Only sorts.Int
-left_need ops.Sub = needs.Only sorts.Int
 left_need ops.Eq = needs.NotTruth
 left_need ops.Ne = needs.NotTruth
-left_need ops.Lt = needs.Only sorts.Int
-left_need ops.Le = needs.Only sorts.Int
-left_need ops.Gt = needs.Only sorts.Int
-left_need ops.Ge = needs.Only sorts.Int
 left_need ops.And = needs.Only sorts.Truth
 left_need ops.Or = needs.Only sorts.Truth
+left_need _ = needs.Only sorts.Int
 
 -- what it needs of the term after it, by the sort of the one before
 abbrev pub right_need : Op → Option Sort → Need
-right_need ops.Add left = needs.Only sorts.Int
-right_need ops.Sub left = needs.Only sorts.Int
 right_need ops.Eq left = same_as left
 right_need ops.Ne left = same_as left
-right_need ops.Lt left = needs.Only sorts.Int
-right_need ops.Le left = needs.Only sorts.Int
-right_need ops.Gt left = needs.Only sorts.Int
-right_need ops.Ge left = needs.Only sorts.Int
-right_need ops.And left = needs.Only sorts.Truth
-right_need ops.Or left = needs.Only sorts.Truth
+right_need op left = left_need op

@@ -68,16 +68,10 @@ fn check_range(lo: i64, hi: i64, token: u32) -> Result<(), NameEnd>
         (λ _. (lo ≤ℤ hi) × (negsuc 1048575 ≤ℤ lo) × (hi ≤ℤ pos 1048576) × (spec.range_size lo hi ≤ 65536)) }
 {
     if hi < lo {
-        return Err(NameEnd::Fault {
-            fault: NameFault::Empty,
-            token,
-        });
+        return Err(NameEnd::at(token, NameFault::Empty));
     }
     if is_far(lo) || is_far(hi) || hi - lo >= 65536 {
-        return Err(NameEnd::Fault {
-            fault: NameFault::TooLarge,
-            token,
-        });
+        return Err(NameEnd::at(token, NameFault::TooLarge));
     }
     Ok(())
 }
@@ -108,10 +102,7 @@ fn find_const(table: &Table, constant: &Const, values: Sort, token: u32) -> Resu
                 check_sort(Need::Only(values), Some(Sort::List(*domain)), token)?;
                 Ok(i64::from(*index))
             }
-            _ => Err(NameEnd::Fault {
-                fault: NameFault::Unknown,
-                token,
-            }),
+            _ => Err(NameEnd::at(token, NameFault::Unknown)),
         },
     }
 }
@@ -151,19 +142,9 @@ fn check_table(
         return Ok(());
     };
     if product != count as u64 {
-        return Err(NameEnd::Fault {
-            fault: NameFault::Count,
-            token,
-        });
+        return Err(NameEnd::at(token, NameFault::Count));
     }
     Ok(())
-}
-
-// The domains of a function's arguments.
-#[derive(Drop)]
-struct Arguments {
-    numbers: Items<u32>,
-    sorts: Items<Sort>,
 }
 
 /// What stands behind a function's name, in numbers.
@@ -220,10 +201,7 @@ impl Declarations {
         let token = self.place + 1;
         self.table.check_new(name, token)?;
         if items.len() > MAX_VALUES {
-            return Err(NameEnd::Fault {
-                fault: NameFault::TooLarge,
-                token,
-            });
+            return Err(NameEnd::at(token, NameFault::TooLarge));
         }
         let number = self.domains.len() as u32;
         let size = items.len() as u32;
@@ -270,11 +248,15 @@ impl Declarations {
 
     // The numbers and the sorts of domains in parentheses.
     #[tactic(auto, using(crate::proofs::Firsts::first_rules))]
-    fn arguments(&mut self, alloc: Global, args: &[Name]) -> Result<Arguments, NameEnd>
+    fn arguments(
+        &mut self,
+        alloc: Global,
+        args: &[Name],
+    ) -> Result<(Items<u32>, Items<Sort>), NameEnd>
         requires { self.old.place + names_tokens args.now < 2 ^ 32 }
         ensures { Judges (domains_faults (scope self.old.table) args.now (self.old.place + 1)) result
-            (λ found. (found.numbers ≡ map (λ arg. number_of (meaning_of (scope self.old.table) arg)) args.now)
-            × (map Some found.sorts ≡ map (λ arg. sort_of_domain (meaning_of (scope self.old.table) arg)) args.now)
+            (λ found. (found.0 ≡ map (λ arg. number_of (meaning_of (scope self.old.table) arg)) args.now)
+            × (map Some found.1 ≡ map (λ arg. sort_of_domain (meaning_of (scope self.old.table) arg)) args.now)
             × (self.new ≡ record self.old { place = self.old.place + names_tokens args.now })) }
     {
         let mut numbers = Items::new(alloc);
@@ -288,7 +270,7 @@ impl Declarations {
                 self.place += 2;
             }
         }
-        Ok(Arguments { numbers, sorts })
+        Ok((numbers, sorts))
     }
 
     // The constants of a table, the first of which is the next token.
@@ -350,7 +332,7 @@ impl Declarations {
             (λ s. IsSignature (scope self.old.table) kind args.now codomain.now table.now s
             × (self.new ≡ record self.old { place = self.old.place + names_tokens args.now + 2 + table_tokens kind table.now })) }
     {
-        let Arguments { numbers, sorts } = self.arguments(alloc, args.as_slice())?;
+        let (numbers, sorts) = self.arguments(alloc, args.as_slice())?;
         self.place += 1;
         let (codomain, values) = self.table.find_domain(codomain, self.place)?;
         self.place += 1;
@@ -422,10 +404,7 @@ impl Declarations {
         self.table.check_new(name, token)?;
         check_table(&self.table, kind, args.as_slice(), table.len(), token)?;
         if args.len() > MAX_ARGUMENTS {
-            return Err(NameEnd::Fault {
-                fault: NameFault::TooManyArguments,
-                token,
-            });
+            return Err(NameEnd::at(token, NameFault::TooManyArguments));
         }
         self.place += 2;
         let signature = self.signature(alloc, kind, args, codomain, table)?;

@@ -2,7 +2,7 @@
 
 ghost use Rattle.std.specs.Prelude.{◌≡◌};
 ghost use Rattle.asm_names.specs.Faults as spec;
-ghost use Rattle.asm_names.specs.declared.fault.NameEnd.TheVariants.{NoMemory};
+ghost use Rattle.asm_names.specs.declared.fault.NameEnd.TheVariants.{Fault, NoMemory};
 
 use std::alloc::{AllocError, AllocFailed};
 use thiserror::Error;
@@ -63,6 +63,15 @@ pub enum NameEnd {
     /// No memory was left for the resolved program.
     #[error("out of memory")]
     NoMemory,
+}
+
+impl NameEnd {
+    /// The fault at the token with this number.
+    pub(crate) fn at(token: u32, fault: NameFault) -> NameEnd
+        ensures { result ≡ Fault fault token }
+    {
+        NameEnd::Fault { fault, token }
+    }
 }
 
 impl From<AllocError> for NameEnd {

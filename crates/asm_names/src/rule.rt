@@ -26,10 +26,7 @@ fn check_kind(kind: Kind, token: u32) -> Result<(), NameEnd>
 {
     match kind {
         Kind::Controlled | Kind::Output => Ok(()),
-        Kind::Input | Kind::Static => Err(NameEnd::Fault {
-            fault: NameFault::NotUpdatable,
-            token,
-        }),
+        Kind::Input | Kind::Static => Err(NameEnd::at(token, NameFault::NotUpdatable)),
     }
 }
 
@@ -56,10 +53,7 @@ fn find_target<'a>(
         },
     ) = table.find(name)
     else {
-        return Err(NameEnd::Fault {
-            fault: NameFault::Unknown,
-            token,
-        });
+        return Err(NameEnd::at(token, NameFault::Unknown));
     };
     check_count(args.len(), count, token)?;
     check_kind(*kind, token)?;

@@ -72,10 +72,7 @@ impl Table {
         ensures { Judges (declared_faults (scope self.now) name.now token) result (λ _. meaning_of (scope self.now) name.now ≡ None) }
     {
         if self.find(name).is_some() {
-            return Err(NameEnd::Fault {
-                fault: NameFault::Repeated,
-                token,
-            });
+            return Err(NameEnd::at(token, NameFault::Repeated));
         }
         Ok(())
     }
@@ -89,10 +86,7 @@ impl Table {
     {
         match self.find(name) {
             Some(Entry::Domain { number, sort, .. }) => Ok((*number, *sort)),
-            _ => Err(NameEnd::Fault {
-                fault: NameFault::Unknown,
-                token,
-            }),
+            _ => Err(NameEnd::at(token, NameFault::Unknown)),
         }
     }
 

@@ -1,10 +1,11 @@
 //! Terms. `place` is the number of the next token.
 
-ghost use Rattle.std.specs.Prelude.{◌≡◌, [], ℕ, ◌+◌, ◌++◌, ◌^◌, ◌<◌, length, map, slice_get, Some};
+ghost use Rattle.std.specs.Prelude.{◌≡◌, [], ℕ, ◌+◌, ◌++◌, ◌^◌, ◌<◌, cond, length, map, slice_get, Some};
 ghost use Rattle.std.specs.Option.{option_copied, option_map};
 ghost use Rattle.asm_tree.specs.declared.term.Term.{Term, Term-F};
 ghost use Rattle.asm_tree.specs.declared.term.Term.TheFolds.{map-Term};
 ghost use Rattle.asm_names.specs.declared.fault.NameFault.TheVariants as causes;
+ghost use Rattle.asm_names.specs.declared.resolved_term.ResolvedTerm.TheVariants as resolved_terms;
 ghost use Rattle.asm_names.specs.Sorts as sorts;
 ghost use Rattle.asm_names.specs.Meanings.{meaning_of, sort_of};
 ghost use Rattle.asm_names.specs.Table.{scope, known};
@@ -64,10 +65,7 @@ pub(crate) fn check_sort(need: Need, sort: Option<Sort>, token: u32) -> Result<(
     ensures { Judges (fault causes.Sort token (sorts.refuses need sort)) result (λ _. Unit {0}) }
 {
     if need.refuses(sort) {
-        return Err(NameEnd::Fault {
-            fault: NameFault::Sort,
-            token,
-        });
+        return Err(NameEnd::at(token, NameFault::Sort));
     }
     Ok(())
 }
@@ -78,10 +76,7 @@ pub(crate) fn check_count(arity: usize, count: usize, token: u32) -> Result<(), 
     ensures { Judges (count_faults (Some arity) count token) result (λ _. Unit {0}) }
 {
     if arity != count {
-        return Err(NameEnd::Fault {
-            fault: NameFault::Count,
-            token,
-        });
+        return Err(NameEnd::at(token, NameFault::Count));
     }
     Ok(())
 }
@@ -185,10 +180,7 @@ fn apply(
     ensures { JudgesLayer (scope table.now) (Term-F.Apply name.now args.now) need place.old result place.new }
 {
     match table.find(name) {
-        None | Some(Entry::Domain { .. }) => Err(NameEnd::Fault {
-            fault: NameFault::Unknown,
-            token: *place,
-        }),
+        None | Some(Entry::Domain { .. }) => Err(NameEnd::at(*place, NameFault::Unknown)),
         Some(Entry::Enumerator { domain, index }) => {
             pass_name(place, 0, args.len(), Some(Sort::List(*domain)), need)?;
             Ok(ResolvedTerm::Number(i64::from(*index)))
@@ -301,7 +293,7 @@ fn negation(
     Ok(ResolvedTerm::Not(boxed(alloc, table, place, inner, Need::Only(Sort::Truth))?))
 }
 
-// Two terms of sort Int in parentheses, behind `min` or `max`.
+// Two terms of sort Int in parentheses, behind `min` where the lesser is wanted, and else behind `max`.
 #[cycle(term)]
 #[tactic(auto, using(crate::proofs::Firsts::first_rules))]
 fn pair(
@@ -311,10 +303,12 @@ fn pair(
     first: &Boxed<Term>,
     second: &Boxed<Term>,
     need: Need,
-) -> Result<(Boxed<ResolvedTerm>, Boxed<ResolvedTerm>), NameEnd>
+    lesser: bool,
+) -> Result<ResolvedTerm, NameEnd>
     requires { place.old + layer_tokens (Term-F.Min first.now second.now) < 2 ^ 32 }
     ensures { Judges (term_faults_by (scope table.now) (map-Term Term Part (part (scope table.now)) (Term-F.Min first.now second.now)) need place.old) result
-        (λ both. (both ≡ (resolved_term (scope table.now) first.now, resolved_term (scope table.now) second.now)) × (place.new ≡ place.old + layer_tokens (Term-F.Min first.now second.now))) }
+        (λ n. (n ≡ cond lesser (resolved_terms.Min (resolved_term (scope table.now) first.now) (resolved_term (scope table.now) second.now)) (resolved_terms.Max (resolved_term (scope table.now) first.now) (resolved_term (scope table.now) second.now)))
+        × (place.new ≡ place.old + layer_tokens (Term-F.Min first.now second.now))) }
 {
     check_sort(need, Some(Sort::Int), *place)?;
     *place += 2;
@@ -322,43 +316,10 @@ fn pair(
     *place += 1;
     let after = boxed(alloc, table, place, second, Need::Only(Sort::Int))?;
     *place += 1;
-    Ok((before, after))
-}
-
-// `min ( first , second )`
-#[cycle(term)]
-#[tactic(auto, using(crate::proofs::Firsts::first_rules))]
-fn minimum(
-    alloc: Global,
-    table: &Table,
-    place: &mut u32,
-    first: &Boxed<Term>,
-    second: &Boxed<Term>,
-    need: Need,
-) -> Result<ResolvedTerm, NameEnd>
-    requires { place.old + layer_tokens (Term-F.Min first.now second.now) < 2 ^ 32 }
-    ensures { JudgesLayer (scope table.now) (Term-F.Min first.now second.now) need place.old result place.new }
-{
-    let (first, second) = pair(alloc, table, place, first, second, need)?;
-    Ok(ResolvedTerm::Min(first, second))
-}
-
-// `max ( first , second )`
-#[cycle(term)]
-#[tactic(auto, using(crate::proofs::Firsts::first_rules))]
-fn maximum(
-    alloc: Global,
-    table: &Table,
-    place: &mut u32,
-    first: &Boxed<Term>,
-    second: &Boxed<Term>,
-    need: Need,
-) -> Result<ResolvedTerm, NameEnd>
-    requires { place.old + layer_tokens (Term-F.Max first.now second.now) < 2 ^ 32 }
-    ensures { JudgesLayer (scope table.now) (Term-F.Max first.now second.now) need place.old result place.new }
-{
-    let (first, second) = pair(alloc, table, place, first, second, need)?;
-    Ok(ResolvedTerm::Max(first, second))
+    if lesser {
+        return Ok(ResolvedTerm::Min(before, after));
+    }
+    Ok(ResolvedTerm::Max(before, after))
 }
 
 // `cond ( guard , first , second )`. The sort of the first value is the sort of all, so it is known before the guard is read.
@@ -406,8 +367,8 @@ pub(crate) fn term(
         Term::Apply { name, args } => apply(alloc, table, place, name, args, need),
         Term::Binary { op, left, right } => { binary(alloc, table, place, *op, left, right, need) }
         Term::Not(inner) => negation(alloc, table, place, inner, need),
-        Term::Min(first, second) => { minimum(alloc, table, place, first, second, need) }
-        Term::Max(first, second) => { maximum(alloc, table, place, first, second, need) }
+        Term::Min(first, second) => pair(alloc, table, place, first, second, need, true),
+        Term::Max(first, second) => pair(alloc, table, place, first, second, need, false),
         Term::Cond(guard, first, second) => {
             conditional(alloc, table, place, guard, first, second, need)
         }

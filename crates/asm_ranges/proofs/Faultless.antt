@@ -1,27 +1,73 @@
 -- What a program without a range fault makes sure of.
-use Rattle.std.proofs.Common.{◌≡◌, ◌≤◌, Bool, true, List, [], ◌∷◌, map, length, None, refl, ap, ◌∙◌, arith}
-use Rattle.std.proofs.lemmas.List.{length-map}
-use Rattle.std.proofs.Math.ListN.{length-replicate}
-use Rattle.std.specs.Prelude.{pos, replicate}
-use Rattle.std.specs.List.{AllByRecursion}
-use Rattle.asm_names.specs.declared.program.Domain.{Domain}
-use Rattle.asm_names.specs.declared.program.Fun.{Fun}
-use Rattle.asm_names.specs.declared.program.Resolved.{Resolved}
-use Rattle.asm_names.specs.declared.resolved_rule.ResolvedRule.{ResolvedRule}
-use Rattle.asm_names.specs.declared.resolved_rule.ResolvedRule.TheOpen.{ResolvedRule-F}
-use Rattle.asm_names.specs.declared.resolved_rule.ResolvedRule.TheFolds.{fold-ResolvedRule}
-use Rattle.asm_names.specs.WellFormed.{IsFun, IsWellFormed}
-use Rattle.state_space.specs.Locations.{shape_of, shapes_of, range_of}
-use Rattle.asm_ranges.specs.Ranges.{Scope, FewArgs, TablesFit, LegalFits}
-use Rattle.state_space.specs.Codomains.{just}
-use Rattle.asm_ranges.specs.Rules.{rule_fits, rule_fits_by, program_fits}
-use Rattle.asm_ranges.specs.RangeFaults.{range_faults, tables_faults, legal_faults, no_intervals, legal_at, program_intervals}
-use Rattle.asm_ranges.specs.Finding.{IsReady, IsWord}
-use Rattle.asm_ranges.specs.Keeping.{Keeps}
-use Rattle.asm_names.specs.Programs.{resolved_funs}
-use Rattle.asm_ranges.proofs.TablesFit.{tables_fit, legal_fits}
-use Rattle.asm_ranges.proofs.SortedTerms.{nil-parts}
-use Rattle.asm_ranges.proofs.SortedRules.{named_claim, starts}
+use Rattle.std.proofs.Common.{◌≡◌, ℕ, zero, suc, ◌+◌, ◌*◌, ℤ, true, List, [], ◌∷◌, map, length, Option, Some, None, refl, sym, ap, ◌∙◌, subst, arith, ◌≤◌, Bool}
+use Rattle.std.{proofs.{lemmas.List.{length-map}, Math.ListN.{length-replicate}}, specs.{Prelude.{MatchOption, pos, replicate}, List.{AllByRecursion, AllZip}}}
+use Rattle.asm_tree.specs.declared.decl.{Const.{Const}, Decl.{Decl}, Kind.{Kind}}
+use Rattle.asm_names.specs.{declared.{program.{Domain.{Domain}, Fun.{Fun}, Interval.{Interval}, Resolved.{Resolved}}, resolved_term.ResolvedTerm.{ResolvedTerm}, resolved_rule.ResolvedRule.{ResolvedRule, ResolvedRule-F, fold-ResolvedRule}}, Meanings.{Scope as Names}, Places.{const_tokens}, Programs.{resolved_funs, resolved_const}, WellFormed.{IsFun, IsWellFormed, sort_of, is_truth, size_of, product, table_length}}
+use Rattle.state_space.specs.{Locations.{shape_of, shapes_of, range_of, tuples}, Codomains.{In, just}}
+use Rattle.state_space.proofs.Numbers.{length-tuples}
+use Rattle.asm_ranges.specs.{Ranges.{TableFits, IfStatic, TablesFit, LegalFits, inside, fits, Scope}, RangeFaults.{constants_faults, outside_faults, tables_faults, interval_of, legal_faults, legal_at, range_faults, no_intervals}, Rules.{rule_fits, rule_fits_by, program_fits}, Finding.{IsWord}, Keeping.{Keeps, IsChecked}}
+use Rattle.asm_ranges.proofs.{Intervals.{just-in, inside-in}, SortedTerms.{nil-parts, no-fault, sorted_claim, truth-some}, SortedRules.{named_claim, starts}}
+use Rattle.asm_tree.specs.declared.decl.Decl.TheVariants as decls
+use Rattle.asm_tree.specs.declared.decl.Kind.TheVariants as kinds
+
+abbrev AllInside : Interval → List ℤ → Type 0
+AllInside d vs = AllByRecursion (λ v. inside (just v) d ≡ true) vs
+
+consts_inside : (d : Interval) (vs : List ℤ) (cs : List Const) (at : ℕ) → length vs ≡ length cs → constants_faults d vs cs at ≡ [] → AllInside d vs
+consts_inside d [] cs at long h = tt
+consts_inside d (v ∷ vs) [] at long h = absurd (omega arith)
+consts_inside d (v ∷ vs) (k ∷ cs) at long h =
+    let p = nil-parts (outside_faults (just v) (Some d) at) _ h in
+    (no-fault _ _ p.0, consts_inside d vs cs (at + const_tokens k + 1) (omega arith) p.1)
+
+abbrev FunInside : List Domain → Fun → Type 0
+FunInside ds f = IfStatic f.kind (AllInside (interval_of ds f.codomain) f.table)
+
+tables_inside : (ds : List Domain) (xs : List Decl) (names : Names) (at : ℕ) → tables_faults ds xs (resolved_funs names xs) at ≡ [] → AllByRecursion (FunInside ds) (resolved_funs names xs)
+tables_inside ds [] names at h = tt
+tables_inside ds (decls.Fun kinds.Static name args codomain cs ∷ xs) names at h =
+    let p = nil-parts (constants_faults _ (map (resolved_const names) cs) cs _) _ h in
+    (consts_inside _ (map (resolved_const names) cs) cs _ (length-map cs (resolved_const names)) p.0, tables_inside ds xs _ _ p.1)
+tables_inside ds (decls.Fun kind name args codomain cs ∷ xs) names at h = (tt, tables_inside ds xs _ _ h)
+tables_inside ds (x ∷ xs) names at h = tables_inside ds xs _ _ h
+
+size_same : (ds : List Domain) (n : ℕ) → (range_of ds n).size ≡ size_of ds n
+size_same [] n = refl
+size_same (d ∷ ds) zero = refl
+size_same (d ∷ ds) (suc n) = size_same ds n
+
+many : (ds : List Domain) (ns : List ℕ) → length (tuples (map (range_of ds) ns)) ≡ product (map (size_of ds) ns)
+many ds [] = refl
+many ds (n ∷ ns) = length-tuples (range_of ds n) (map (range_of ds) ns) ∙ (ap (λ s. s * length (tuples (map (range_of ds) ns))) (size_same ds n) ∙ ap (λ m. size_of ds n * m) (many ds ns))
+
+zipped : {A : Type 0} (d : Interval) (ts : List A) (vs : List ℤ) → length ts ≡ length vs → AllInside d vs → AllZip (λ t v. In d v) ts vs
+zipped d [] [] long all = tt
+zipped d [] (v ∷ vs) long all = absurd (omega arith)
+zipped d (t ∷ ts) [] long all = absurd (omega arith)
+zipped d (t ∷ ts) (v ∷ vs) long all = (inside-in (just v) d v all.0 (just-in v), zipped d ts vs (omega arith) all.1)
+
+fun_fits : (ds : List Domain) (f : Fun) (k : Kind) → length f.table ≡ table_length k ds f.args → IfStatic k (AllInside (interval_of ds f.codomain) f.table) → IfStatic k (TableFits (shape_of ds f) f.table)
+fun_fits ds f kinds.Static long all = zipped (interval_of ds f.codomain) (tuples (map (range_of ds) f.args)) f.table (many ds f.args ∙ sym long) all
+fun_fits ds f _ long all = tt
+
+all_fit : (ds : List Domain) (fs : List Fun) → AllByRecursion (IsFun ds) fs → AllByRecursion (FunInside ds) fs → AllByRecursion (λ f. IfStatic f.kind (TableFits (shape_of ds f) f.table)) fs
+all_fit ds [] each all = tt
+all_fit ds (f ∷ fs) each all = (fun_fits ds f f.kind each.0.table all.0, all_fit ds fs each.1 all.1)
+
+tables_fit : (p : Resolved) → IsWellFormed p → p.funs ≡ resolved_funs [] p.source.decls → range_faults p ≡ [] → TablesFit p
+tables_fit p well is none =
+    let tables = (nil-parts (tables_faults p.domains p.source.decls p.funs 3) _ none).0 in
+    let all = tables_inside p.domains p.source.decls [] 3 (rw is at tables) in
+    all_fit p.domains p.funs well.funs (subst (λ (fs : List Fun). AllByRecursion (FunInside p.domains) fs) (sym is) all)
+
+legal_fits : (p : Resolved) → IsWellFormed p → range_faults p ≡ [] → LegalFits p
+legal_fits p well none =
+    let later = nil-parts (tables_faults p.domains p.source.decls p.funs 3) _ none in
+    by p.legal well.legal (nil-parts (legal_faults (shapes_of p) p.legal (legal_at p)) _ later.1).0
+  where
+    by : (o : Option ResolvedTerm) → MatchOption o (Unit {0}) (λ t. is_truth (sort_of p.funs [] t) ≡ true) → legal_faults (shapes_of p) o (legal_at p) ≡ [] → MatchOption o (Unit {0}) (λ t. fits (shapes_of p) [] t ≡ true)
+    by None h k = tt
+    by (Some t) h k = ((sorted_claim p.domains p.funs [] [] [] t (truth-some _ h)).1 (λ b scope. absurd cc)).1 None _ k
 
 few_by : (domains : List Domain) (funs : List Fun) → AllByRecursion (IsFun domains) funs → AllByRecursion (λ shape. length shape.args ≤ 3) (map (shape_of domains) funs)
 few_by domains [] all = tt
@@ -30,41 +76,27 @@ few_by domains (f ∷ funs) all = (omega (arith, length-map f.args (range_of dom
 module _ (p q : Resolved) (d : q.domains ≡ p.domains) (f : q.funs ≡ p.funs) where
   same_by : (x : ResolvedRule-F (Scope → Bool)) (scope : Scope) → rule_fits_by q x scope ≡ rule_fits_by p x scope
   same_by ResolvedRule-F.Skip scope = refl
-  same_by (ResolvedRule-F.Update fun args v) scope = rw (d, f) refl
-  same_by (ResolvedRule-F.If g t o has) scope = rw (d, f) refl
   same_by (ResolvedRule-F.Par rules) scope = refl
-  same_by (ResolvedRule-F.Forall b n g guarded body) scope = rw (d, f) refl
-  same_by (ResolvedRule-F.Choose b n g body o has) scope = rw (d, f) refl
-  same_by (ResolvedRule-F.Let b v body) scope = rw (d, f) refl
+  same_by _ scope = rw (d, f) refl
 
-  pub same_fits : (r : ResolvedRule) (scope : Scope) → rule_fits q r scope ≡ rule_fits p r scope
+  same_fits : (r : ResolvedRule) (scope : Scope) → rule_fits q r scope ≡ rule_fits p r scope
   unfolding rule_fits
   same_fits r scope = λ i. fold-ResolvedRule (Scope → Bool) (λ x s. same_by x s i) r scope
 
-pub fits_where_faultless : (p : Resolved) → IsWellFormed p → range_faults p ≡ [] → program_fits p ≡ true
+fits_where_faultless : (p : Resolved) → IsWellFormed p → range_faults p ≡ [] → program_fits p ≡ true
 fits_where_faultless p well none =
     let later = nil-parts (tables_faults p.domains p.source.decls p.funs 3) _ none in
     let rule = nil-parts (legal_faults (shapes_of p) p.legal (legal_at p)) _ later.1 in
     (named_claim p p.rule [] 0 well.rule).2 (replicate p.binders None) (no_intervals p) _ (starts p (no_intervals p) (length-replicate p.binders (just (pos 0)))) rule.1
 
-pub kept_fits : (p q : Resolved) → IsWellFormed p → range_faults p ≡ [] → Keeps p q → program_fits q ≡ true
-kept_fits p q well none keeps =
-    same_fits p q keeps.domains keeps.funs q.rule (replicate q.binders None) ∙ (ap (λ r. rule_fits p r (replicate q.binders None)) keeps.rule ∙ (ap (λ n. rule_fits p p.rule (replicate n None)) keeps.binders ∙ fits_where_faultless p well none))
-
-pub kept_few : (p q : Resolved) → IsWellFormed p → Keeps p q → FewArgs q
-kept_few p q well keeps = rw (keeps.domains, keeps.funs) (few_by p.domains p.funs well.funs)
-
-pub kept_ready : (p q : Resolved) → IsWellFormed p → Keeps p q → AllByRecursion IsWord q.intervals → IsReady q.domains q.funs q.intervals
-kept_ready p q well keeps words = rw (keeps.domains, keeps.funs) (record { all_domains = well.domains; all_funs = well.funs; all_words = words })
-
-pub kept_tables : (p q : Resolved) → IsWellFormed p → p.funs ≡ resolved_funs [] p.source.decls → range_faults p ≡ [] → Keeps p q → TablesFit q
-kept_tables p q well is none keeps = rw (keeps.domains, keeps.funs) (tables_fit p well is none)
-
-pub kept_legal : (p q : Resolved) → IsWellFormed p → range_faults p ≡ [] → Keeps p q → LegalFits q
-kept_legal p q well none keeps = rw (keeps.legal, keeps.domains, keeps.funs) (legal_fits p well none)
-
-pub kept_faultless : (p q : Resolved) → range_faults p ≡ [] → Keeps p q → range_faults q ≡ []
-kept_faultless p q none keeps = rw (keeps.domains, keeps.source, keeps.funs, keeps.legal, keeps.rule, keeps.binders) none
-
-pub kept_intervals : (p q : Resolved) → Keeps p q → q.intervals ≡ program_intervals q
-kept_intervals p q keeps = rw (keeps.domains, keeps.funs, keeps.rule, keeps.binders) keeps.intervals
+-- a program without a fault is checked once it has the intervals of its binders
+pub kept : (p q : Resolved) → IsWellFormed p → p.funs ≡ resolved_funs [] p.source.decls → range_faults p ≡ [] → Keeps p q → AllByRecursion IsWord q.intervals → IsChecked q
+kept p q well is none keeps words = (
+  same_fits p q keeps.domains keeps.funs q.rule (replicate q.binders None) ∙ rw (keeps.rule, keeps.binders) (fits_where_faultless p well none),
+  rw (keeps.domains, keeps.funs) (few_by p.domains p.funs well.funs),
+  rw (keeps.domains, keeps.funs) (record { all_domains = well.domains; all_funs = well.funs; all_words = words }),
+  rw (keeps.domains, keeps.funs) (tables_fit p well is none),
+  rw (keeps.legal, keeps.domains, keeps.funs) (legal_fits p well none),
+  rw (keeps.domains, keeps.source, keeps.funs, keeps.legal, keeps.rule, keeps.binders) none,
+  rw (keeps.domains, keeps.funs, keeps.rule, keeps.binders) keeps.intervals,
+)

@@ -1,34 +1,17 @@
 -- The values of sums, and of terms with numbers in the place of binders.
-use Rattle.std.proofs.Common.{◌≡◌, ℕ, zero, suc, ℤ, pos, true, not, List, [], ◌∷◌, map, Option, Some, None, refl, sym, ap, ◌∙◌, subst}
-use Rattle.std.specs.Prelude.{slice_index_or, if◌then◌else◌}
-use Rattle.std.specs.Int.{int_min, int_max}
-use Rattle.std.specs.Option.{unwrap_or}
+use Rattle.std.proofs.Common.{◌≡◌, ℕ, zero, suc, ℤ, pos, true, List, [], ◌∷◌, map, Option, Some, None, refl, sym, ap, ◌∙◌, subst}
+use Rattle.std.specs.{Prelude.{slice_index_or}, Option.{unwrap_or}}
 use Rattle.asm_tree.specs.declared.term.Op.{Op}
-use Rattle.asm_tree.specs.declared.term.Op.TheVariants as ops
-use Rattle.asm_names.specs.declared.program.Interval.{Interval}
-use Rattle.asm_names.specs.declared.program.Resolved.{Resolved}
-use Rattle.asm_names.specs.declared.resolved_term.ResolvedTerm.{ResolvedTerm}
-use Rattle.asm_names.specs.declared.resolved_term.ResolvedTerm.TheOpen.{ResolvedTerm-F}
-use Rattle.asm_names.specs.declared.resolved_term.ResolvedTerm.TheViews.{roll-ResolvedTerm}
-use Rattle.asm_names.specs.declared.resolved_term.ResolvedTerm.TheFolds.{fold-roll-ResolvedTerm, ind-ResolvedTerm, map-ResolvedTerm}
-use Rattle.asm_ranges.specs.Ranges.{truths, words, sum_fits, binary_range}
+use Rattle.asm_names.specs.declared.{program.{Interval.{Interval}, Resolved.{Resolved}}, resolved_term.ResolvedTerm.{ResolvedTerm, ResolvedTerm-F, roll-ResolvedTerm, fold-roll-ResolvedTerm, ind-ResolvedTerm, map-ResolvedTerm}}
+use Rattle.asm_ranges.specs.{Ranges.{truths, words, sum_fits, binary_range}, Values.{value, value_by, read}, Instances.{Numbers, number_or, instance, instance_by, numbered_env}}
 use Rattle.state_space.specs.Codomains.{In}
-use Rattle.asm_ranges.specs.Values.{value, value_by, read, binary, truth, holds}
-use Rattle.asm_ranges.specs.Instances.{Numbers, number_or, instance, instance_by, numbered_env}
-use Rattle.asm_ranges.proofs.Intervals.{inside-in}
-use Rattle.asm_ranges.proofs.Equations.{value-Number, value-Var, value-Read, value-Binary, value-Not, value-Min, value-Max, value-Cond}
+use Rattle.asm_ranges.proofs.{Intervals.{inside-in}, Equations.{value-Number, value-Var, value-Read, value-Binary, value-Not, value-Min, value-Max, value-Cond}}
+use Rattle.asm_tree.specs.declared.term.Op.TheVariants as ops
 
 pub word_of_sum : (op : Op) (a b : Interval) (v : ℤ) → sum_fits op (binary_range op a b) ≡ true → In (binary_range op a b) v → In words v
 word_of_sum ops.Add a b v h p = inside-in (binary_range ops.Add a b) words v h p
 word_of_sum ops.Sub a b v h p = inside-in (binary_range ops.Sub a b) words v h p
-word_of_sum ops.Eq a b v h p = inside-in truths words v refl p
-word_of_sum ops.Ne a b v h p = inside-in truths words v refl p
-word_of_sum ops.Lt a b v h p = inside-in truths words v refl p
-word_of_sum ops.Le a b v h p = inside-in truths words v refl p
-word_of_sum ops.Gt a b v h p = inside-in truths words v refl p
-word_of_sum ops.Ge a b v h p = inside-in truths words v refl p
-word_of_sum ops.And a b v h p = inside-in truths words v refl p
-word_of_sum ops.Or a b v h p = inside-in truths words v refl p
+word_of_sum _ a b v h p = inside-in truths words v refl p
 
 numbered_at : (numbers : Numbers) (env : List ℤ) (b : ℕ) → slice_index_or (numbered_env numbers env) b (pos 0) ≡ unwrap_or (slice_index_or numbers b None) (slice_index_or env b (pos 0))
 numbered_at [] env b = refl
@@ -67,17 +50,11 @@ module _ (program : Resolved) (state inputs env : List ℤ) (numbers : Numbers) 
   layer (ResolvedTerm-F.Number v) = value-Number program state inputs env v
   layer (ResolvedTerm-F.Var b) = var (slice_index_or numbers b None) b ∙ sym (numbered_at numbers env b)
   layer (ResolvedTerm-F.Read fun ts) = value-Read program state inputs env fun (map (instance numbers) (map term ts)) ∙ ap (read program state inputs fun) (args ts)
-  layer (ResolvedTerm-F.Binary op l r) =
-      value-Binary program state inputs env op (instance numbers l.0) (instance numbers r.0) ∙ (ap (λ v. binary op v (value program state inputs env (instance numbers r.0))) l.1 ∙ ap (binary op (after l.0)) r.1)
-  layer (ResolvedTerm-F.Not t) = value-Not program state inputs env (instance numbers t.0) ∙ ap (λ v. truth (not (holds v))) t.1
-  layer (ResolvedTerm-F.Min l r) =
-      value-Min program state inputs env (instance numbers l.0) (instance numbers r.0) ∙ (ap (λ v. int_min v (value program state inputs env (instance numbers r.0))) l.1 ∙ ap (int_min (after l.0)) r.1)
-  layer (ResolvedTerm-F.Max l r) =
-      value-Max program state inputs env (instance numbers l.0) (instance numbers r.0) ∙ (ap (λ v. int_max v (value program state inputs env (instance numbers r.0))) l.1 ∙ ap (int_max (after l.0)) r.1)
-  layer (ResolvedTerm-F.Cond g l r) =
-      value-Cond program state inputs env (instance numbers g.0) (instance numbers l.0) (instance numbers r.0)
-      ∙ (ap (λ v. if holds v then value program state inputs env (instance numbers l.0) else value program state inputs env (instance numbers r.0)) g.1
-      ∙ (ap (λ v. if holds (after g.0) then v else value program state inputs env (instance numbers r.0)) l.1 ∙ ap (λ v. if holds (after g.0) then after l.0 else v) r.1))
+  layer (ResolvedTerm-F.Binary op l r) = value-Binary program state inputs env op (instance numbers l.0) (instance numbers r.0) ∙ rw (l.1, r.1) refl
+  layer (ResolvedTerm-F.Not t) = value-Not program state inputs env (instance numbers t.0) ∙ rw t.1 refl
+  layer (ResolvedTerm-F.Min l r) = value-Min program state inputs env (instance numbers l.0) (instance numbers r.0) ∙ rw (l.1, r.1) refl
+  layer (ResolvedTerm-F.Max l r) = value-Max program state inputs env (instance numbers l.0) (instance numbers r.0) ∙ rw (l.1, r.1) refl
+  layer (ResolvedTerm-F.Cond g l r) = value-Cond program state inputs env (instance numbers g.0) (instance numbers l.0) (instance numbers r.0) ∙ rw (g.1, l.1, r.1) refl
 
   rolled : (x : ResolvedTerm-F ResolvedTerm) → Layer x → Claim (roll-ResolvedTerm x)
   unfolding instance value

@@ -1,20 +1,12 @@
 -- What is found of a term follows from what is found of its parts.
 use Rattle.std.proofs.Common.{◌≡◌, ℕ, ◌+◌, ◌<◌, ◌≤◌, ◌≤ℤ◌, Bool, true, false, not, List, ◌++◌, Option, Some, None, refl, ap, sym, ◌∙◌, subst, T, arith}
-use Rattle.std.proofs.lemmas.Bool.{and_parts}
-use Rattle.std.proofs.lemmas.Int.{ints, clamps}
-use Rattle.std.specs.Int.{int_min, int_max}
+use Rattle.std.{proofs.lemmas.{Bool.{and_parts}, Int.{ints, clamps}}, specs.Int.{int_min, int_max}}
 use Rattle.asm_tree.specs.declared.term.Op.{Op}
-use Rattle.asm_tree.specs.declared.term.Op.TheVariants as ops
 use Rattle.asm_names.specs.declared.program.Interval.{Interval}
-use Rattle.asm_ranges.specs.declared.fault.RangeEnd.{RangeEnd}
+use Rattle.asm_ranges.specs.{declared.{fault.RangeEnd.{RangeEnd}, finding.Found.{Found}}, Faults.{first_fault, either, fault}, Ranges.{hull, truths, binary_range, sum_fits, inside, words}, RangeFaults.{outside_faults}, Finding.{IsNear, IsWord, Finds}}
+use Rattle.asm_ranges.proofs.{Firsts.{first-append}, Intervals.{word-near, truths-word}}
+use Rattle.asm_tree.specs.declared.term.Op.TheVariants as ops
 use Rattle.asm_ranges.specs.declared.fault.RangeEnd.TheVariants as ends
-use Rattle.asm_ranges.specs.declared.finding.Found.{Found}
-use Rattle.asm_ranges.specs.Faults.{first_fault, either, fault}
-use Rattle.asm_ranges.specs.Ranges.{hull, truths, binary_range, sum_fits, inside, words}
-use Rattle.asm_ranges.specs.RangeFaults.{outside_faults}
-use Rattle.asm_ranges.specs.Finding.{IsNear, IsWord, Finds}
-use Rattle.asm_ranges.proofs.Firsts.{first-append}
-use Rattle.asm_ranges.proofs.Words.{word-near, truths-word}
 
 pub either-parts : (a b : Option RangeEnd) → either a b ≡ None → (a ≡ None) × (b ≡ None)
 either-parts None b h = (refl, h)
@@ -80,14 +72,7 @@ hull-word a b h j = record { low = omega (arith, ints, clamps); some = omega (ar
 pub binary-near : (op : Op) (a b : Interval) (n m k : ℕ) → IsNear a n → IsNear b m → n + m < k → IsNear (binary_range op a b) k
 binary-near ops.Add a b n m k h j less = record { low = omega (arith, ints); some = omega (arith, ints); high = omega (arith, ints) }
 binary-near ops.Sub a b n m k h j less = record { low = omega (arith, ints); some = omega (arith, ints); high = omega (arith, ints) }
-binary-near ops.Eq a b n m k h j less = word-near truths k truths-word (omega arith)
-binary-near ops.Ne a b n m k h j less = word-near truths k truths-word (omega arith)
-binary-near ops.Lt a b n m k h j less = word-near truths k truths-word (omega arith)
-binary-near ops.Le a b n m k h j less = word-near truths k truths-word (omega arith)
-binary-near ops.Gt a b n m k h j less = word-near truths k truths-word (omega arith)
-binary-near ops.Ge a b n m k h j less = word-near truths k truths-word (omega arith)
-binary-near ops.And a b n m k h j less = word-near truths k truths-word (omega arith)
-binary-near ops.Or a b n m k h j less = word-near truths k truths-word (omega arith)
+binary-near _ a b n m k h j less = word-near truths k truths-word (omega arith)
 
 inside-word : (i : Interval) → i.lo ≤ℤ i.hi → inside i words ≡ true → IsWord i
 inside-word i some h =
@@ -103,14 +88,7 @@ pub binary-word : (op : Op) (a b : Interval) (at n : ℕ) (o : Option RangeEnd) 
     → o ≡ first_fault (fault (ends.Wide at) (not (sum_fits op (binary_range op a b)))) → o ≡ None → IsWord (binary_range op a b)
 binary-word ops.Add a b at n o near is none = inside-word (binary_range ops.Add a b) near.some (no_fault (ends.Wide at) _ (sym is ∙ none))
 binary-word ops.Sub a b at n o near is none = inside-word (binary_range ops.Sub a b) near.some (no_fault (ends.Wide at) _ (sym is ∙ none))
-binary-word ops.Eq a b at n o near is none = truths-word
-binary-word ops.Ne a b at n o near is none = truths-word
-binary-word ops.Lt a b at n o near is none = truths-word
-binary-word ops.Le a b at n o near is none = truths-word
-binary-word ops.Gt a b at n o near is none = truths-word
-binary-word ops.Ge a b at n o near is none = truths-word
-binary-word ops.And a b at n o near is none = truths-word
-binary-word ops.Or a b at n o near is none = truths-word
+binary-word _ a b at n o near is none = truths-word
 
 pub binary-is : (op : Op) (r x y a b : Interval) → r ≡ binary_range op x y → x ≡ a → y ≡ b → r ≡ binary_range op a b
 binary-is op r x y a b is left right = is ∙ (ap (λ z. binary_range op z y) left ∙ ap (binary_range op a) right)

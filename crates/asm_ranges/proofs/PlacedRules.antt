@@ -1,31 +1,11 @@
 -- What fits in rules that fit.
-use Rattle.std.proofs.Common.{◌≡◌, ℕ, ◌<◌, ◌≤◌, ℤ, pos, Bool, true, List, [], ◌∷◌, map, length, Option, Some, None, refl, sym, ◌∙◌, subst, arith, inl, inr}
-use Rattle.std.proofs.lemmas.List.{length-map}
-use Rattle.std.specs.Prelude.{slice_get, slice_set, slice_index_or, IfSome}
-use Rattle.std.specs.List.{list_all}
-use Rattle.std.proofs.lemmas.Bool.{and_parts, and_from, ltb-true}
-use Rattle.std.proofs.lemmas.Bool.{cases_eq}
-use Rattle.std.proofs.Common.{get_or-set_same, get_or-set_other, length-set}
-use Rattle.asm_names.specs.declared.program.Resolved.{Resolved}
-use Rattle.asm_names.specs.declared.resolved_term.ResolvedTerm.{ResolvedTerm}
-use Rattle.asm_names.specs.declared.resolved_rule.ResolvedRule.{ResolvedRule}
-use Rattle.asm_names.specs.declared.resolved_rule.ResolvedRule.TheOpen.{ResolvedRule-F}
+use Rattle.std.proofs.Common.{◌≡◌, ℕ, ◌<◌, ◌≤◌, ℤ, pos, Bool, true, List, [], ◌∷◌, map, length, Option, Some, None, refl, sym, ◌∙◌, subst, arith, inl, inr, get_or-set_same, get_or-set_other, length-set, ltb}
+use Rattle.std.{proofs.lemmas.{List.{length-map}, Bool.{and_parts, and_from, ltb-true, cases_eq}}, specs.{Prelude.{slice_get, slice_set, slice_index_or, IfSome}, List.{list_all}}}
+use Rattle.asm_names.specs.declared.{program.{Resolved.{Resolved}, Interval.{Interval}}, resolved_term.ResolvedTerm.{ResolvedTerm}, resolved_rule.ResolvedRule.{ResolvedRule, ResolvedRule-F, map-ResolvedRule, roll-ResolvedRule}}
+use Rattle.state_space.specs.{declared.shape.Shape.{Shape}, Locations.{shapes_of}, Codomains.{In, codomain_range, whole}}
+use Rattle.asm_ranges.specs.{Ranges.{Scope, range, fits, EnvFits, ReadsFit, FewArgs}, Rules.{rule_fits, rule_fits_by, write_fits, bound, domain_interval, RulePlaced, RulesPlaced, TermPlaced, TermsPlaced, ElementsPlaced}, Values.{value}}
+use Rattle.asm_ranges.proofs.{Levels.{rule_fits_at}, Intervals.{inside-in}, Placed.{few_args}, Readings.{reads_in}, Terms.{value_in_range}}
 use Rattle.asm_names.specs.declared.resolved_rule.ResolvedRule.TheVariants as rules
-use Rattle.asm_names.specs.declared.resolved_rule.ResolvedRule.TheFolds.{map-ResolvedRule}
-use Rattle.asm_names.specs.declared.resolved_rule.ResolvedRule.TheViews.{roll-ResolvedRule}
-use Rattle.std.proofs.Common.{ltb}
-use Rattle.state_space.specs.declared.shape.Shape.{Shape}
-use Rattle.state_space.specs.Locations.{shapes_of}
-use Rattle.asm_names.specs.declared.program.Interval.{Interval}
-use Rattle.asm_ranges.specs.Ranges.{Scope, range, fits, EnvFits, ReadsFit, FewArgs}
-use Rattle.state_space.specs.Codomains.{In, codomain_range, whole}
-use Rattle.asm_ranges.proofs.RuleSteps.{rule_fits_at}
-use Rattle.asm_ranges.proofs.Intervals.{inside-in}
-use Rattle.asm_ranges.specs.Rules.{rule_fits, rule_fits_by, write_fits, bound, domain_interval, RulePlaced, RulesPlaced, TermPlaced, TermsPlaced, ElementsPlaced}
-use Rattle.asm_ranges.specs.Values.{value}
-use Rattle.asm_ranges.proofs.Placed.{few_args}
-use Rattle.asm_ranges.proofs.Readings.{reads_in}
-use Rattle.asm_ranges.proofs.Terms.{value_in_range}
 
 -- a binder is bound to a number of its interval
 pub EnvFits-set : (scope : Scope) (env : List ℤ) (b : ℕ) (i : Interval) (v : ℤ) → length scope ≡ length env → b < length env → EnvFits scope env → In i v

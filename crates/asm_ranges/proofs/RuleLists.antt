@@ -1,47 +1,16 @@
 -- Rules in a list, one after another, and rules behind a binder.
-use Rattle.std.proofs.Common.{◌≡◌, ℕ, zero, suc, ◌+◌, ◌<◌, ◌≤◌, Bool, true, List, [], ◌∷◌, ◌++◌, map, drop, get_or, length, Some, Result, Ok, Err, refl, ap, ◌∙◌, arith}
-use Rattle.std.specs.Prelude.{slice_set, nat_lt}
-use Rattle.std.proofs.lemmas.Bool.{ltb-true}
-use Rattle.std.specs.List.{AllByRecursion}
-use Rattle.asm_names.specs.declared.program.Domain.{Domain}
-use Rattle.asm_names.specs.declared.program.Fun.{Fun}
-use Rattle.asm_names.specs.declared.program.Interval.{Interval}
-use Rattle.asm_names.specs.declared.resolved_rule.ResolvedRule.{ResolvedRule}
-use Rattle.asm_names.specs.declared.resolved_rule.ResolvedRule.TheOpen.{ResolvedRule-F}
-use Rattle.asm_names.specs.declared.resolved_term.ResolvedTerm.{ResolvedTerm}
-use Rattle.asm_names.specs.Places.{led}
-use Rattle.asm_names.specs.ResolvedPlaces.{resolved_term_tokens, resolved_rule_tokens, led_if}
+use Rattle.std.proofs.Common.{◌≡◌, ℕ, zero, suc, ◌+◌, ◌≤◌, Bool, true, List, [], ◌∷◌, ◌++◌, map, drop, length, Some, Result, Ok, Err, refl, ap, ◌∙◌, arith}
+use Rattle.std.{specs.{Prelude.{slice_set, nat_lt}, List.{AllByRecursion}}, proofs.lemmas.Bool.{ltb-true}}
+use Rattle.asm_names.specs.{declared.{program.{Domain.{Domain}, Fun.{Fun}, Interval.{Interval}}, resolved_rule.ResolvedRule.{ResolvedRule, ResolvedRule-F}, resolved_term.ResolvedTerm.{ResolvedTerm}}, Places.{led}, ResolvedPlaces.{resolved_term_tokens, resolved_rule_tokens, led_if}}
 use Rattle.state_space.specs.declared.shape.Shape.{Shape}
-use Rattle.asm_ranges.specs.declared.fault.RangeEnd.{RangeEnd}
-use Rattle.asm_ranges.specs.Faults.{first_fault, Judges}
-use Rattle.asm_ranges.specs.RangeFaults.{Row, each_rule_faults, rule_faults, guard_faults, intervals_after, after_each, interval_of}
-use Rattle.asm_ranges.specs.Finding.{IsWord, IsReady}
-use Rattle.asm_ranges.specs.FindingRules.{faulty_rule, Passes, JudgesRuleLayer}
-use Rattle.asm_ranges.proofs.Firsts.{first-append}
-use Rattle.asm_ranges.proofs.Lists.{left-from}
-use Rattle.asm_ranges.proofs.Words.{interval-word}
+use Rattle.asm_ranges.specs.{declared.fault.RangeEnd.{RangeEnd}, Faults.{first_fault, Judges}, RangeFaults.{Row, rule_faults, guard_faults, intervals_after, interval_of}, Finding.{IsWord, IsReady}, FindingRules.{Passes, JudgesRuleLayer}}
+use Rattle.asm_ranges.proofs.{Firsts.{first-append}, Intervals.{interval-word}}
 
 -- what is left of a list takes no more tokens
 pub led-drop : (i : ℕ) (rs : List ResolvedRule) → led (map resolved_rule_tokens (drop i rs)) ≤ led (map resolved_rule_tokens rs)
 led-drop zero rs = omega arith
 led-drop (suc i) [] = omega arith
 led-drop (suc i) (r ∷ rs) = omega (arith, led-drop i rs)
-
-module _ (i : ℕ) (rs : List ResolvedRule) (r : ResolvedRule) (there : i < length rs) (is : r ≡ get_or rs i r) where
-  next : drop i rs ≡ r ∷ drop (i + 1) rs
-  next = left-from i rs r there is
-
-  pub led-next : led (map resolved_rule_tokens (drop i rs)) ≡ 1 + resolved_rule_tokens r + led (map resolved_rule_tokens (drop (i + 1) rs))
-  led-next = ap (λ us. led (map resolved_rule_tokens us)) next
-
-  pub each-next : (domains : List Domain) (shapes : List Shape) (row : Row) (at : ℕ)
-      → each_rule_faults domains shapes (map (faulty_rule domains shapes) (drop i rs)) row at
-      ≡ rule_faults domains shapes r row (at + 1) ++ each_rule_faults domains shapes (map (faulty_rule domains shapes) (drop (i + 1) rs)) (intervals_after domains shapes r row) (at + 1 + resolved_rule_tokens r)
-  each-next domains shapes row at = ap (λ us. each_rule_faults domains shapes (map (faulty_rule domains shapes) us) row at) next
-
-  pub after-next : (domains : List Domain) (shapes : List Shape) (row : Row)
-      → after_each (map (intervals_after domains shapes) (drop i rs)) row ≡ after_each (map (intervals_after domains shapes) (drop (i + 1) rs)) (intervals_after domains shapes r row)
-  after-next domains shapes row = ap (λ us. after_each (map (intervals_after domains shapes) us) row) next
 
 -- the fault of the first of two parts is that of the whole
 pub stopped : (all f g : List RangeEnd) (e : RangeEnd) → all ≡ f ++ g → first_fault f ≡ Some e → first_fault all ≡ Some e

@@ -1,41 +1,14 @@
 -- Rules of a well-formed program without a fault fit.
-use Rattle.std.proofs.Common.{◌≡◌, ℕ, zero, suc, ◌+◌, ◌<◌, ◌≤◌, pos, Bool, true, false, ◌&&◌, ◌||◌, List, [], ◌∷◌, map, length, length-set, get_or-set_same, get_or-set_other, Option, Some, None, refl, sym, ap, ◌∙◌, subst, arith, inl, inr}
-use Rattle.std.proofs.lemmas.List.{length-map}
-use Rattle.std.proofs.Math.ListN.{length-replicate}
-use Rattle.std.specs.Prelude.{slice_get, slice_set, slice_index_or, is_some, nat_eq, nat_lt, replicate, MatchOption}
-use Rattle.std.specs.List.{list_all}
-use Rattle.std.specs.Option.{option_map}
-use Rattle.std.proofs.lemmas.Bool.{and_parts, and_from, or_cases, cases_eq, eqb-true, ltb-true, lt-ltb}
-use Rattle.std.proofs.lemmas.Option.{slice_get-map}
+use Rattle.std.proofs.Common.{◌≡◌, ℕ, ◌+◌, ◌<◌, ◌≤◌, pos, Bool, true, false, ◌&&◌, ◌||◌, List, [], ◌∷◌, map, length, length-set, get_or-set_same, get_or-set_other, Option, Some, None, refl, sym, ap, ◌∙◌, subst, arith, inl, inr}
+use Rattle.std.{proofs.{lemmas.{List.{length-map, map-set}, Bool.{and_parts, and_from, or_cases, cases_eq, eqb-true, ltb-true, lt-ltb}, Option.{slice_get-map}}, Math.ListN.{length-replicate}}, specs.{Prelude.{slice_get, slice_set, slice_index_or, is_some, nat_eq, nat_lt, replicate, MatchOption}, List.{list_all}, Option.{option_map}}}
+use Rattle.asm_names.specs.{declared.{program.{Fun.{Fun}, Interval.{Interval}, Resolved.{Resolved}}, resolved_term.ResolvedTerm.{ResolvedTerm, ResolvedTerm-F}, resolved_rule.ResolvedRule.{ResolvedRule, ResolvedRule-F, roll-ResolvedRule, ind-ResolvedRule, map-ResolvedRule}}, Places.{in_parentheses}, ResolvedPlaces.{resolved_term_tokens, resolved_rule_binders}, WellFormed.{Bound, in_scope, sort_of, sort_if, is_thing, is_truth, thing, takes, named_by, rule_named, each_named, new_binder, guard_stands, else_stands, RulePart}, Rules.{always}}
+use Rattle.state_space.specs.{declared.shape.Shape.{Shape}, Locations.{shape_of, shapes_of}, Codomains.{codomain_range}}
+use Rattle.asm_ranges.specs.{Ranges.{Scope, range, fits}, Rules.{rule_fits, rule_fits_by, write_fits}, RangeFaults.{Row, FaultyRule, known, args_faults, domains_of, term_faults, faulty_term, interval_of, intervals_after, after_else, after_each, guard_faults, else_faults, each_rule_faults, rule_faults, rule_faults_by}, Finding.{small_numbers}, FindingRules.{plain, faulty_rule, layer_plain, layer_after}}
+use Rattle.asm_names.proofs.{Absent.{absent_guard, absent_else}, ResolvedLevels.{named, named_at}}
+use Rattle.asm_ranges.proofs.{Levels.{fits_at, plain_of, after_of, rule_fits_at, rule_faults_at}, SortedTerms.{args-small, args-taken, all_sorted, Agree, nil-parts, need-inside, sorted_claim, thing-some, truth-some}}
 use Rattle.asm_tree.specs.declared.term.Op.TheVariants as ops
-use Rattle.asm_names.specs.declared.program.Fun.{Fun}
-use Rattle.asm_names.specs.declared.program.Interval.{Interval}
-use Rattle.asm_names.specs.declared.program.Resolved.{Resolved}
-use Rattle.asm_names.specs.declared.resolved_term.ResolvedTerm.{ResolvedTerm}
-use Rattle.asm_names.specs.declared.resolved_rule.ResolvedRule.{ResolvedRule}
-use Rattle.asm_names.specs.declared.resolved_rule.ResolvedRule.TheOpen.{ResolvedRule-F}
-use Rattle.asm_names.specs.declared.resolved_rule.ResolvedRule.TheViews.{roll-ResolvedRule}
-use Rattle.asm_names.specs.declared.resolved_rule.ResolvedRule.TheFolds.{para-roll-ResolvedRule, ind-ResolvedRule, map-ResolvedRule}
-use Rattle.asm_names.specs.Places.{in_parentheses}
-use Rattle.asm_names.specs.ResolvedPlaces.{resolved_term_tokens, resolved_rule_binders}
-use Rattle.asm_names.specs.WellFormed.{Bound, in_scope, sort_of, sort_if, is_thing, is_truth, thing, takes, named_by, rule_named, each_named, new_binder, guard_stands, else_stands, RulePart}
-use Rattle.state_space.specs.declared.shape.Range.{Range}
-use Rattle.state_space.specs.declared.shape.Shape.{Shape}
-use Rattle.state_space.specs.Locations.{shape_of, range_of, shapes_of}
-use Rattle.asm_ranges.specs.Ranges.{Scope, range, fits, args_inside}
-use Rattle.state_space.specs.Codomains.{whole, codomain_range}
-use Rattle.asm_ranges.specs.Rules.{rule_fits, rule_fits_by, write_fits}
-use Rattle.asm_ranges.specs.RangeFaults.{Row, FaultyRule, known, args_faults, domains_of, term_faults, faulty_term, interval_of, intervals_after, after_else, after_each, guard_faults, else_faults, each_rule_faults, rule_faults, rule_faults_by}
-use Rattle.asm_ranges.specs.Finding.{small_numbers}
-use Rattle.asm_ranges.specs.FindingRules.{plain, faulty_rule, layer_plain, layer_after}
-use Rattle.asm_names.specs.Rules.{always}
 use Rattle.asm_names.specs.declared.resolved_rule.ResolvedRule.TheVariants as rules
 use Rattle.asm_names.specs.declared.resolved_term.ResolvedTerm.TheVariants as terms
-use Rattle.asm_names.proofs.Absent.{absent_guard, absent_else}
-use Rattle.asm_ranges.proofs.Equations.{fits-Number, fits-Binary}
-use Rattle.asm_ranges.proofs.RuleSteps.{plain_of, after_of, rule_fits_at, rule_faults_at}
-use Rattle.asm_ranges.proofs.SortedTerms.{Agree, nil-parts, need-inside, sorted_claim, thing-some, truth-some}
-use Rattle.asm_ranges.proofs.Rows.{known-set}
 
 if-thing : (b : Bool) → is_thing (sort_if b thing) ≡ true → b ≡ true
 if-thing true h = refl
@@ -68,11 +41,8 @@ module _ (program : Resolved) where
   abbrev rule : Sound → ResolvedRule
   rule s = s.0
 
-  abbrev named : ResolvedRule → RulePart
-  named r = (r, rule_named program r)
-
   abbrev Layer : ResolvedRule-F ResolvedRule → Type 0
-  Layer x = (bound : Bound) (before : ℕ) → named_by program (map-ResolvedRule ResolvedRule RulePart named x) bound before ≡ true
+  Layer x = (bound : Bound) (before : ℕ) → named_by program (map-ResolvedRule ResolvedRule RulePart (named program) x) bound before ≡ true
       → (layer_plain program.domains x ≡ true) × Kept before (layer_after program.domains shapes x)
       × ((scope : Scope) (row : Row) (at : ℕ) → Ready bound before scope row
       → rule_faults_by program.domains shapes (map-ResolvedRule ResolvedRule FaultyRule (faulty_rule program.domains shapes) x) row at ≡ []
@@ -92,7 +62,7 @@ module _ (program : Resolved) where
       → (length (slice_set row b i) ≡ length row) × ((k : ℕ) → k < before → slice_index_or (known (slice_set row b i)) k None ≡ slice_index_or (known row) k None)
   set_kept before b i row e = (
     length-set row b i,
-    λ k less. rw (known-set row b i) (get_or-set_other (known row) b k (Some i) None (λ same. absurd (omega arith))),
+    λ k less. rw (map-set (λ (j : Interval). Some j) row b i) (get_or-set_other (known row) b k (Some i) None (λ same. absurd (omega arith))),
   )
 
   abbrev next_binder : Bound → ℕ → ℕ → Type 0
@@ -108,11 +78,11 @@ module _ (program : Resolved) where
       | inl e ↦
           let s : slice_index_or (slice_set scope b (Some i)) k None ≡ Some i = ap (λ j. slice_index_or (slice_set scope b (Some i)) j None) e ∙ get_or-set_same scope b (Some i) None (omega (arith, new.1, ready.scope_long)) in
           let r : slice_index_or (known (slice_set row b i)) k None ≡ Some i =
-          rw (known-set row b i) (ap (λ j. slice_index_or (slice_set (known row) b (Some i)) j None) e ∙ get_or-set_same (known row) b (Some i) None (omega (arith, new.1, ready.row_long, length-map row (λ (j : Interval). Some j)))) in
+          rw (map-set (λ (j : Interval). Some j) row b i) (ap (λ j. slice_index_or (slice_set (known row) b (Some i)) j None) e ∙ get_or-set_same (known row) b (Some i) None (omega (arith, new.1, ready.row_long, length-map row (λ (j : Interval). Some j)))) in
           (i, s, r)
       | inr ne ↦
           let a = ready.agree k (other k ne h) in
-          (a.0, get_or-set_other scope b k (Some i) None ne ∙ a.1, rw (known-set row b i) (get_or-set_other (known row) b k (Some i) None ne ∙ a.2))
+          (a.0, get_or-set_other scope b k (Some i) None ne ∙ a.1, rw (map-set (λ (j : Interval). Some j) row b i) (get_or-set_other (known row) b k (Some i) None ne ∙ a.2))
     ];
     below = λ k h. elim (cases_eq k b) [
       | inl e ↦ omega (arith, new.0)
@@ -130,58 +100,12 @@ module _ (program : Resolved) where
 
   -- ---- terms in rules
 
-  term-fits : (bound : Bound) (before : ℕ) (scope : Scope) (row : Row) (t : ResolvedTerm) → Ready bound before scope row → is_some (sort_of program.funs bound t) ≡ true
-      → (range shapes scope t ≡ range shapes (known row) t) × (small_numbers t ≡ true) × ((need : Option Interval) (at : ℕ) → term_faults shapes row t need at ≡ [] → fits shapes scope t ≡ true)
-  term-fits bound before scope row t ready h = sorted_claim program.domains program.funs bound scope row ready.agree t h
-
-  -- numbers are small whatever is in scope
   small : (bound : Bound) (t : ResolvedTerm) → is_some (sort_of program.funs bound t) ≡ true → small_numbers t ≡ true
-  small bound t h = (sorted_claim program.domains program.funs bound (full bound) (fullrow bound) (λ b k. agrees bound b k) t h).1
-    where
-      most : Bound → ℕ
-      most [] = 0
-      most (b ∷ bs) = suc b + most bs
+  small bound t h = (sorted_claim program.domains program.funs bound [] [] t h).0
 
-      zero_to : Interval
-      zero_to = record { lo = pos 0; hi = pos 0 }
-
-      fullrow : Bound → Row
-      fullrow bs = replicate (most bs) zero_to
-
-      full : Bound → Scope
-      full bs = known (fullrow bs)
-
-      within : (bs : Bound) (b : ℕ) → in_scope bs b ≡ true → b < most bs
-      within [] b k = absurd cc
-      within (x ∷ bs) b k = elim (or_cases (nat_eq b x) (in_scope bs b) k) [
-        | inl e ↦ omega (arith, eqb-true b x e)
-        | inr e ↦ omega (arith, within bs b e)
-      ]
-
-      at_zero : (n b : ℕ) → b < n → slice_index_or (known (replicate n zero_to)) b None ≡ Some zero_to
-      at_zero zero b k = absurd (omega arith)
-      at_zero (suc n) zero k = refl
-      at_zero (suc n) (suc b) k = at_zero n b (omega arith)
-
-      agrees : (bs : Bound) (b : ℕ) → in_scope bs b ≡ true → (i : Interval) × (slice_index_or (full bs) b None ≡ Some i) × (slice_index_or (known (fullrow bs)) b None ≡ Some i)
-      agrees bs b k = let e = at_zero (most bs) b (within bs b k) in (zero_to, e, e)
-
-  all-small : (bound : Bound) (ts : List ResolvedTerm) → list_all is_thing (map (sort_of program.funs bound) ts) ≡ true → list_all small_numbers ts ≡ true
-  all-small bound [] h = refl
-  all-small bound (t ∷ ts) h = let p = and_parts _ _ h in and_from _ _ (small bound t (thing-some _ p.0)) (all-small bound ts p.1)
-
-  args-fit : (bound : Bound) (before : ℕ) (scope : Scope) (row : Row) (ts : List ResolvedTerm) (needs : List Range) (at : ℕ) → Ready bound before scope row
-      → list_all is_thing (map (sort_of program.funs bound) ts) ≡ true → length needs ≡ length ts → args_faults needs (map (faulty_term shapes row) ts) at ≡ []
-      → (list_all (fits shapes scope) ts ≡ true) × (args_inside (map (range shapes scope) ts) needs ≡ true)
-  args-fit bound before scope row [] [] at ready h long k = (refl, refl)
-  args-fit bound before scope row [] (d ∷ ds) at ready h long k = absurd (omega arith)
-  args-fit bound before scope row (t ∷ ts) [] at ready h long k = absurd (omega arith)
-  args-fit bound before scope row (t ∷ ts) (d ∷ ds) at ready h long k =
-      let p = and_parts _ _ h in
-      let claim = term-fits bound before scope row t ready (thing-some _ p.0) in
-      let q = nil-parts (term_faults shapes row t (Some (whole d)) at) _ k in
-      let rest = args-fit bound before scope row ts ds (at + resolved_term_tokens t + 1) ready p.1 (omega arith) q.1 in
-      (and_from _ _ (claim.2 _ at q.0) rest.0, and_from _ _ (rw claim.0 (need-inside shapes row t (whole d) at q.0)) rest.1)
+  term-fits : (bound : Bound) (before : ℕ) (scope : Scope) (row : Row) (t : ResolvedTerm) → Ready bound before scope row → is_some (sort_of program.funs bound t) ≡ true
+      → (range shapes scope t ≡ range shapes (known row) t) × ((need : Option Interval) (at : ℕ) → term_faults shapes row t need at ≡ [] → fits shapes scope t ≡ true)
+  term-fits bound before scope row t ready h = (sorted_claim program.domains program.funs bound scope row t h).1 ready.agree
 
   writes : (o : Option Fun) (bound : Bound) (before : ℕ) (scope : Scope) (row : Row) (ts : List ResolvedTerm) (v : ResolvedTerm) (at place : ℕ) → Ready bound before scope row
       → list_all is_thing (map (sort_of program.funs bound) ts) ≡ true → takes o (length (map (sort_of program.funs bound) ts)) ≡ true → is_thing (sort_of program.funs bound v) ≡ true
@@ -190,18 +114,18 @@ module _ (program : Resolved) where
       → ((list_all (fits shapes scope) ts && fits shapes scope v) && write_fits (map (range shapes scope) ts) (range shapes scope v) (option_map (shape_of program.domains) o)) ≡ true
   writes None bound before scope row ts v at place ready h t w k l = absurd cc
   writes (Some f) bound before scope row ts v at place ready h t w k l =
-      let long : length f.args ≡ length (map (sort_of program.funs bound) ts) = eqb-true _ _ t in
-      let fit = args-fit bound before scope row ts (map (range_of program.domains) f.args) at ready h (length-map f.args (range_of program.domains) ∙ (long ∙ length-map ts (sort_of program.funs bound))) k in
+      let fit = args-taken program.domains program.funs bound scope row (Some f) ts at (all_sorted program.domains program.funs bound scope row ts) ready.agree t h k in
       let claim = term-fits bound before scope row v ready (thing-some _ w) in
-      and_from _ _ (and_from _ _ fit.0 (claim.2 _ place l)) (and_from _ _ fit.1 (rw claim.0 (need-inside shapes row v _ place l)))
+      and_from _ _ (and_from _ _ fit.0 (claim.1 _ place l)) (and_from _ _ fit.1 (rw claim.0 (need-inside shapes row v _ place l)))
 
   -- ---- what the text hasn't
 
   module _ (scope : Scope) where
     always-fits : fits shapes scope always ≡ true
     always-fits =
-        let zero_fits = fits-Number shapes scope (pos 0) in
-        fits-Binary shapes scope ops.Eq (terms.Number (pos 0)) (terms.Number (pos 0)) ∙ and_from _ _ (and_from _ _ zero_fits zero_fits) refl
+        let zero_fits = fits_at (ResolvedTerm-F.Number (pos 0)) _ (terms.rolls-Number (pos 0)) shapes scope in
+        fits_at (ResolvedTerm-F.Binary ops.Eq (terms.Number (pos 0)) (terms.Number (pos 0))) _ (terms.rolls-Binary ops.Eq (terms.Number (pos 0)) (terms.Number (pos 0))) shapes scope
+        ∙ and_from _ _ (and_from _ _ zero_fits zero_fits) refl
 
     guard-fits : (guarded : Bool) (row : Row) (guard : ResolvedTerm) (at : ℕ) → guard_stands guarded guard ≡ true
         → ((need : Option Interval) (place : ℕ) → term_faults shapes row guard need place ≡ [] → fits shapes scope guard ≡ true)
@@ -228,7 +152,7 @@ module _ (program : Resolved) where
       let body = kept (slice_set row b (i row)) in
       (body.0 ∙ own.0, λ k h. body.1 k (omega arith) ∙ own.1 k h)
 
-  each-plain : (rs : List Sound) (bound : Bound) (before : ℕ) → each_named (map named (map rule rs)) bound before ≡ true
+  each-plain : (rs : List Sound) (bound : Bound) (before : ℕ) → each_named (map (named program) (map rule rs)) bound before ≡ true
       → (list_all (λ p. p) (map (plain program.domains) (map rule rs)) ≡ true) × Kept before (λ row. after_each (map (intervals_after program.domains shapes) (map rule rs)) row)
       × ((scope : Scope) (row : Row) (at : ℕ) → Ready bound before scope row → each_rule_faults program.domains shapes (map (faulty_rule program.domains shapes) (map rule rs)) row at ≡ []
       → list_all (λ part. part scope) (map (rule_fits program) (map rule rs)) ≡ true)
@@ -253,7 +177,7 @@ module _ (program : Resolved) where
   layer (ResolvedRule-F.Update fun ts v) bound before h =
       let p = and_parts _ _ (and_parts _ _ h).1 in
       let q = and_parts _ _ (if-thing _ p.0) in (
-        and_from _ _ (all-small bound ts q.0) (small bound v (thing-some _ p.1)),
+        and_from _ _ (args-small program.domains program.funs bound [] [] ts (all_sorted program.domains program.funs bound [] [] ts) q.0) (small bound v (thing-some _ p.1)),
         λ row. (refl, λ b k. refl),
         λ scope row at ready k.
             let same = slice_get-map (shape_of program.domains) program.funs fun in
@@ -274,7 +198,7 @@ module _ (program : Resolved) where
         λ scope row at ready k.
             let f = nil-parts (term_faults shapes row g None (at + 1)) _ k in
             let e = nil-parts (rule_faults program.domains shapes t.0 row (at + 1 + resolved_term_tokens g + 1)) _ f.1 in
-            and_from _ _ ((term-fits bound before scope row g ready (truth-some _ q.0)).2 None _ f.0)
+            and_from _ _ ((term-fits bound before scope row g ready (truth-some _ q.0)).1 None _ f.0)
             (and_from _ _ (c.2 scope row _ ready e.0)
             (else-fits scope has o.0 (intervals_after program.domains shapes t.0 row) _ p.0
             (λ place. d.2 scope (intervals_after program.domains shapes t.0 row) place (later bound before (before + resolved_rule_binders t.0) scope row (intervals_after program.domains shapes t.0) ready (omega arith) c.1)) e.1)),
@@ -294,7 +218,7 @@ module _ (program : Resolved) where
             let f = nil-parts (guard_faults guarded shapes (slice_set row b (interval_of program.domains d)) g (at + 5)) _ k in
             and_from _ _ (has-room scope b new.1 ready.scope_long)
             (and_from _ _ (guard-fits (slice_set scope b (Some (interval_of program.domains d))) guarded (slice_set row b (interval_of program.domains d)) g (at + 5) p.0
-            (term-fits (b ∷ bound) (before + 1) _ _ g in_body (truth-some _ s.0)).2 f.0)
+            (term-fits (b ∷ bound) (before + 1) _ _ g in_body (truth-some _ s.0)).1 f.0)
             (c.2 _ _ _ in_body f.1)),
       )
   layer (ResolvedRule-F.Choose b d g body o has) bound before h =
@@ -315,7 +239,7 @@ module _ (program : Resolved) where
             let e = nil-parts (rule_faults program.domains shapes body.0 (slice_set row b (interval_of program.domains d)) (at + 5 + resolved_term_tokens g + 1)) _ f.1 in
             and_from _ _
             (and_from _ _ (has-room scope b new.1 ready.scope_long)
-            (and_from _ _ ((term-fits (b ∷ bound) (before + 1) _ _ g in_body (truth-some _ s.0)).2 None _ f.0) (c.2 _ _ _ in_body e.0)))
+            (and_from _ _ ((term-fits (b ∷ bound) (before + 1) _ _ g in_body (truth-some _ s.0)).1 None _ f.0) (c.2 _ _ _ in_body e.0)))
             (else-fits scope has o.0 _ _ p.0
             (λ place. m.2 scope _ place (later bound before (before + 1 + resolved_rule_binders body.0) scope row (λ w. intervals_after program.domains shapes body.0 (slice_set w b (interval_of program.domains d))) ready (omega arith) first_kept)) e.1),
       )
@@ -331,16 +255,12 @@ module _ (program : Resolved) where
             let in_body = inner bound before b (range shapes (known row) v) scope row new ready in
             let f = nil-parts (term_faults shapes row v None (at + 3)) _ k in
             and_from _ _ (has-room scope b new.1 ready.scope_long)
-            (and_from _ _ (claim.2 None _ f.0) (rw claim.0 (c.2 _ _ _ in_body f.1))),
+            (and_from _ _ (claim.1 None _ f.0) (rw claim.0 (c.2 _ _ _ in_body f.1))),
       )
-
-  named_at : (x : ResolvedRule-F ResolvedRule) (bound : Bound) (before : ℕ) → rule_named program (roll-ResolvedRule x) bound before ≡ named_by program (map-ResolvedRule ResolvedRule RulePart named x) bound before
-  unfolding rule_named
-  named_at x bound before = ap (λ f. f bound before) (para-roll-ResolvedRule (Bound → ℕ → Bool) (named_by program) x)
 
   rolled : (x : ResolvedRule-F ResolvedRule) → Layer x → Claim (roll-ResolvedRule x)
   rolled x one bound before h =
-      let l = one bound before (sym (named_at x bound before) ∙ h) in (
+      let l = one bound before (sym (named_at x (roll-ResolvedRule x) refl program bound before) ∙ h) in (
         plain_of x (roll-ResolvedRule x) refl program.domains ∙ l.0,
         λ row. rw (after_of x (roll-ResolvedRule x) refl program.domains shapes row) (l.1 row),
         λ scope row at ready k. rule_fits_at x (roll-ResolvedRule x) refl program scope ∙ l.2 scope row at ready (sym (rule_faults_at x (roll-ResolvedRule x) refl program.domains shapes row at) ∙ k),

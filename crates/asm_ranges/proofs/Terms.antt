@@ -1,23 +1,10 @@
 -- The value of a term lies in its range.
 use Rattle.std.proofs.Common.{◌≡◌, ℕ, ℤ, pos, true, List, [], ◌∷◌, map, Option, Some, None, refl, sym, ◌∙◌, subst}
-use Rattle.std.specs.Prelude.{slice_get, is_some, IfSome}
-use Rattle.std.specs.List.{AllZip}
-use Rattle.std.proofs.lemmas.Bool.{and_parts}
-use Rattle.asm_names.specs.declared.program.Resolved.{Resolved}
-use Rattle.asm_names.specs.declared.resolved_term.ResolvedTerm.{ResolvedTerm}
-use Rattle.asm_names.specs.declared.resolved_term.ResolvedTerm.TheOpen.{ResolvedTerm-F}
-use Rattle.asm_names.specs.declared.resolved_term.ResolvedTerm.TheViews.{roll-ResolvedTerm}
-use Rattle.asm_names.specs.declared.resolved_term.ResolvedTerm.TheFolds.{ind-ResolvedTerm, map-ResolvedTerm}
-use Rattle.state_space.specs.declared.shape.Range.{Range}
-use Rattle.state_space.specs.declared.shape.Shape.{Shape}
-use Rattle.state_space.specs.Locations.{shapes_of}
-use Rattle.asm_names.specs.declared.program.Interval.{Interval}
-use Rattle.asm_ranges.specs.Ranges.{Scope, range, range_by, fits, fits_by, args_inside, read_fits, parts_fit, EnvFits, Part}
-use Rattle.state_space.specs.Codomains.{In, whole, codomain_range, just}
-use Rattle.std.specs.Option.{unwrap_or}
-use Rattle.asm_ranges.specs.Values.{value, value_by, read}
-use Rattle.asm_ranges.proofs.TermLevels.{judged, range_at, value_at, fits_at}
-use Rattle.asm_ranges.proofs.Intervals.{just-in, truth-in, min-in, max-in, choice-in, binary-in, inside-in}
+use Rattle.std.{specs.{Prelude.{slice_get, is_some, IfSome}, List.{list_all, AllZip}, Option.{unwrap_or}}, proofs.lemmas.Bool.{and_parts}}
+use Rattle.asm_names.specs.declared.{program.{Resolved.{Resolved}, Interval.{Interval}}, resolved_term.ResolvedTerm.{ResolvedTerm, ResolvedTerm-F, roll-ResolvedTerm, ind-ResolvedTerm, map-ResolvedTerm}}
+use Rattle.state_space.specs.{declared.shape.{Range.{Range}, Shape.{Shape}}, Locations.{shapes_of}, Codomains.{In, whole, codomain_range, just}}
+use Rattle.asm_ranges.specs.{Ranges.{Scope, range, range_by, fits, fits_by, args_inside, read_fits, EnvFits, Part}, Values.{value, value_by, read}}
+use Rattle.asm_ranges.proofs.{Levels.{judged, fits_read, range_at, value_at, fits_at}, Intervals.{just-in, truth-in, min-in, max-in, choice-in, binary-in, inside-in}}
 
 -- what is read at arguments in the domains lies in the codomain
 abbrev pub ReadsIn : Resolved → List ℤ → List ℤ → Type 0
@@ -48,8 +35,7 @@ module _ (program : Resolved) (state inputs env : List ℤ) (scope : Scope) (rea
   var-in None v b h = absurd cc
   var-in (Some i) v b h = b
 
-  args-in : (args : List Sound) (domains : List Range) → parts_fit (map (judged shapes scope) (map term args)) ≡ true
-      → args_inside (map (λ part. range shapes scope part.0) (map (judged shapes scope) (map term args))) domains ≡ true
+  args-in : (args : List Sound) (domains : List Range) → list_all (fits shapes scope) (map term args) ≡ true → args_inside (map (range shapes scope) (map term args)) domains ≡ true
       → AllZip (λ arg domain. In (whole domain) arg) (map (value program state inputs env) (map term args)) domains
   args-in [] [] h k = tt
   args-in [] (d ∷ ds) h k = absurd cc
@@ -59,8 +45,7 @@ module _ (program : Resolved) (state inputs env : List ℤ) (scope : Scope) (rea
       let q = and_parts _ _ k in
       (inside-in _ _ _ q.0 (a.1 p.0), args-in args ds p.1 q.1)
 
-  read-in : (o : Option Shape) (fun : ℕ) (args : List Sound) → slice_get shapes fun ≡ o → parts_fit (map (judged shapes scope) (map term args)) ≡ true
-      → read_fits (map (λ part. range shapes scope part.0) (map (judged shapes scope) (map term args))) o ≡ true
+  read-in : (o : Option Shape) (fun : ℕ) (args : List Sound) → slice_get shapes fun ≡ o → list_all (fits shapes scope) (map term args) ≡ true → read_fits (map (range shapes scope) (map term args)) o ≡ true
       → In (codomain_range o) (read program state inputs fun (map (value program state inputs env) (map term args)))
   read-in None fun args e h k = absurd cc
   read-in (Some shape) fun args e h k = reads fun _ shape e (args-in args shape.args h k)
@@ -68,7 +53,7 @@ module _ (program : Resolved) (state inputs env : List ℤ) (scope : Scope) (rea
   layer-in : (x : ResolvedTerm-F Sound) → LayerIn (map-ResolvedTerm Sound ResolvedTerm term x)
   layer-in (ResolvedTerm-F.Number v) h = just-in v
   layer-in (ResolvedTerm-F.Var b) h = var-in _ _ (bound b) h
-  layer-in (ResolvedTerm-F.Read fun args) h = let p = and_parts _ _ h in read-in _ fun args refl p.0 p.1
+  layer-in (ResolvedTerm-F.Read fun args) h = let p = and_parts _ _ (sym (fits_read shapes scope fun (map term args)) ∙ h) in read-in _ fun args refl p.0 p.1
   layer-in (ResolvedTerm-F.Binary op l r) h =
       let p = and_parts _ _ h in
       let q = and_parts _ _ p.0 in

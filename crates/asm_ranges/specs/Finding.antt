@@ -1,22 +1,8 @@
 -- What functions find of the ranges of terms.
-use Rattle.std.specs.Prelude.{◌≡◌, ℕ, ◌+◌, ◌*◌, pos, negsuc, ◌-ℤ◌, ◌≤ℤ◌, Bool, true, ◌&&◌, List, map, Option, None}
-use Rattle.std.specs.List.{list_all, AllByRecursion}
-use Rattle.asm_names.specs.declared.program.Domain.{Domain}
-use Rattle.asm_names.specs.declared.program.Fun.{Fun}
-use Rattle.asm_names.specs.declared.program.Interval.{Interval}
-use Rattle.asm_names.specs.declared.resolved_term.ResolvedTerm.{ResolvedTerm}
-use Rattle.asm_names.specs.declared.resolved_term.ResolvedTerm.TheOpen.{ResolvedTerm-F}
-use Rattle.asm_names.specs.declared.resolved_term.ResolvedTerm.TheFolds.{fold-ResolvedTerm, map-ResolvedTerm}
-use Rattle.asm_names.specs.ResolvedPlaces.{resolved_term_tokens, resolved_term_tokens_by}
-use Rattle.asm_names.specs.WellFormed.{IsDomain, IsFun, is_number}
-use Rattle.state_space.specs.declared.shape.Shape.{Shape}
-use Rattle.state_space.specs.Locations.{shape_of}
-use Rattle.asm_ranges.specs.declared.fault.RangeEnd.{RangeEnd}
-use Rattle.asm_ranges.specs.declared.finding.Found.{Found}
-use Rattle.asm_ranges.specs.declared.finding.Parts.{Parts}
-use Rattle.asm_ranges.specs.Faults.{first_fault}
-use Rattle.asm_ranges.specs.Ranges.{range, range_by}
-use Rattle.asm_ranges.specs.RangeFaults.{Row, FaultyTerm, known, term_faults, term_faults_by, faulty_term}
+use Rattle.std.specs.{Prelude.{◌≡◌, ℕ, ◌+◌, ◌*◌, pos, negsuc, ◌-ℤ◌, ◌≤ℤ◌, Bool, true, ◌&&◌, List, map, Option, None}, List.{list_all, AllByRecursion}}
+use Rattle.asm_names.specs.{declared.{program.{Domain.{Domain}, Fun.{Fun}, Interval.{Interval}}, resolved_term.ResolvedTerm.{ResolvedTerm, ResolvedTerm-F, fold-ResolvedTerm, map-ResolvedTerm}}, ResolvedPlaces.{resolved_term_tokens, resolved_term_tokens_by}, WellFormed.{IsDomain, IsFun, is_number}}
+use Rattle.state_space.specs.{declared.shape.Shape.{Shape}, Locations.{shape_of}}
+use Rattle.asm_ranges.specs.{declared.{fault.RangeEnd.{RangeEnd}, finding.{Found.{Found}, Parts.{Parts}}}, Faults.{first_fault}, Ranges.{range, range_by}, RangeFaults.{Row, FaultyTerm, known, term_faults, term_faults_by, faulty_term}}
 
 -- ---- what is needed of a term
 

@@ -1,18 +1,8 @@
 -- What functions find of the ranges of rules.
-use Rattle.std.specs.Prelude.{◌≡◌, ℕ, ◌+◌, Bool, true, ◌&&◌, nat_lt, List, length, Result}
-use Rattle.std.specs.List.{list_all, AllByRecursion}
-use Rattle.asm_names.specs.declared.program.Domain.{Domain}
-use Rattle.asm_names.specs.declared.program.Interval.{Interval}
-use Rattle.asm_names.specs.declared.resolved_rule.ResolvedRule.{ResolvedRule}
-use Rattle.asm_names.specs.declared.resolved_rule.ResolvedRule.TheOpen.{ResolvedRule-F}
-use Rattle.asm_names.specs.declared.resolved_rule.ResolvedRule.TheFolds.{fold-ResolvedRule, map-ResolvedRule}
-use Rattle.asm_names.specs.ResolvedPlaces.{resolved_rule_tokens, resolved_rule_tokens_by}
+use Rattle.std.specs.{Prelude.{◌≡◌, ℕ, ◌+◌, Bool, true, ◌&&◌, nat_lt, List, length, Result}, List.{list_all, AllByRecursion}}
+use Rattle.asm_names.specs.{declared.{program.{Domain.{Domain}, Interval.{Interval}}, resolved_rule.ResolvedRule.{ResolvedRule, ResolvedRule-F, fold-ResolvedRule, map-ResolvedRule}}, ResolvedPlaces.{resolved_rule_tokens, resolved_rule_tokens_by}}
 use Rattle.state_space.specs.declared.shape.Shape.{Shape}
-use Rattle.asm_ranges.specs.declared.fault.RangeEnd.{RangeEnd}
-use Rattle.asm_ranges.specs.declared.walk.Sound.{Sound}
-use Rattle.asm_ranges.specs.Faults.{Judges}
-use Rattle.asm_ranges.specs.RangeFaults.{Row, FaultyRule, rule_faults, rule_faults_by, intervals_after, intervals_after_by}
-use Rattle.asm_ranges.specs.Finding.{IsWord, small_numbers}
+use Rattle.asm_ranges.specs.{declared.{fault.RangeEnd.{RangeEnd}, walk.Sound.{Sound}}, Faults.{Judges}, RangeFaults.{Row, FaultyRule, rule_faults, rule_faults_by, intervals_after, intervals_after_by}, Finding.{IsWord, small_numbers}}
 
 -- One rule, with whether each part is plain.
 abbrev pub plain_by : List Domain → ResolvedRule-F Bool → Bool

@@ -1,10 +1,7 @@
 -- Terms with numbers in the place of binders.
-use Rattle.std.specs.Prelude.{ℕ, ℤ, pos, List, [], ◌∷◌, slice_index_or, Option, Some, None}
-use Rattle.std.specs.Option.{unwrap_or}
-use Rattle.asm_names.specs.declared.resolved_term.ResolvedTerm.{ResolvedTerm}
-use Rattle.asm_names.specs.declared.resolved_term.ResolvedTerm.TheOpen.{ResolvedTerm-F}
+use Rattle.std.specs.{Prelude.{ℕ, ℤ, pos, List, [], ◌∷◌, slice_index_or, Option, Some, None}, Option.{unwrap_or}}
+use Rattle.asm_names.specs.declared.resolved_term.ResolvedTerm.{ResolvedTerm, ResolvedTerm-F, fold-ResolvedTerm}
 use Rattle.asm_names.specs.declared.resolved_term.ResolvedTerm.TheVariants as terms
-use Rattle.asm_names.specs.declared.resolved_term.ResolvedTerm.TheFolds.{fold-ResolvedTerm}
 
 -- numbers by binder, where the binder has one
 abbrev pub Numbers : Type 0

@@ -1,7 +1,7 @@
 -- What stays of a program whose ranges are found.
-use Rattle.std.specs.Prelude.{◌≡◌}
+use Rattle.std.specs.Prelude.{◌≡◌, [], true}
 use Rattle.asm_names.specs.declared.program.Resolved.{Resolved}
-use Rattle.asm_ranges.specs.RangeFaults.{program_intervals}
+use Rattle.asm_ranges.specs.{Ranges.{FewArgs, LegalFits, TablesFit}, Rules.{program_fits}, Finding.{IsReady}, RangeFaults.{program_intervals, range_faults}}
 
 -- A program has the intervals of its binders, and is else the same.
 pub record Keeps (old new : Resolved) : Type 0 where
@@ -13,3 +13,9 @@ pub record Keeps (old new : Resolved) : Type 0 where
   pub legal : new.legal ≡ old.legal
   pub rule : new.rule ≡ old.rule
   pub intervals : new.intervals ≡ program_intervals old
+
+-- what is known of a checked program
+abbrev pub IsChecked : Resolved → Type 0
+IsChecked program =
+    (program_fits program ≡ true) × FewArgs program × IsReady program.domains program.funs program.intervals × TablesFit program × LegalFits program
+    × (range_faults program ≡ []) × (program.intervals ≡ program_intervals program)

@@ -1,14 +1,10 @@
 -- What holds of all programs whose values stay in their ranges.
 use Rattle.std.specs.Prelude.{◌≡◌, ℤ, true, List}
-use Rattle.asm_names.specs.declared.program.Resolved.{Resolved}
+use Rattle.asm_names.specs.declared.{program.Resolved.{Resolved}, resolved_term.ResolvedTerm.{ResolvedTerm}}
 use Rattle.asm_tree.specs.declared.term.Op.{Op}
-use Rattle.asm_names.specs.declared.resolved_term.ResolvedTerm.{ResolvedTerm}
+use Rattle.state_space.specs.{Locations.{shapes_of}, Codomains.{In}}
+use Rattle.asm_ranges.specs.{Ranges.{Scope, EnvFits, ReadsFit, fits, range, words}, Instances.{Numbers, instance, numbered_env}, Values.{value}}
 use Rattle.asm_names.specs.declared.resolved_term.ResolvedTerm.TheVariants as terms
-use Rattle.state_space.specs.Locations.{shapes_of}
-use Rattle.asm_ranges.specs.Ranges.{Scope, EnvFits, ReadsFit, fits, range, words}
-use Rattle.state_space.specs.Codomains.{In}
-use Rattle.asm_ranges.specs.Instances.{Numbers, instance, numbered_env}
-use Rattle.asm_ranges.specs.Values.{value}
 
 -- the value of a term that fits lies in its range
 abbrev pub ValuesLieInRanges : Type 0

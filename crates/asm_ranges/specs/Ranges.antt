@@ -1,20 +1,10 @@
 -- The range of a term, and the programs whose values stay in their ranges.
-use Rattle.std.specs.Prelude.{◌≤◌, length, ℕ, ℤ, pos, negsuc, ◌+ℤ◌, ◌-ℤ◌, Bool, true, false, ◌&&◌, List, [], ◌∷◌, map, int_le, slice_index_or, slice_get, Option, Some, None, is_some, IfSome, MatchOption, ◌≡◌}
-use Rattle.std.specs.List.{AllZip, AllByRecursion}
-use Rattle.asm_tree.specs.declared.decl.Kind.{Kind}
+use Rattle.std.specs.{Prelude.{◌≤◌, length, ℕ, ℤ, pos, negsuc, ◌+ℤ◌, ◌-ℤ◌, Bool, true, false, ◌&&◌, List, [], ◌∷◌, map, int_le, slice_index_or, slice_get, Option, Some, None, is_some, IfSome, MatchOption, ◌≡◌}, List.{list_all, AllZip, AllByRecursion}, Option.{unwrap_or}, Int.{int_min, int_max}}
+use Rattle.asm_tree.specs.declared.{decl.Kind.{Kind}, term.Op.{Op}}
+use Rattle.state_space.specs.{Locations.{tuples, state_locations, input_locations, shape_of, shapes_of}, declared.shape.{Range.{Range}, Shape.{Shape}}}
+use Rattle.asm_names.specs.declared.{program.{Resolved.{Resolved}, Interval.{Interval}}, resolved_term.ResolvedTerm.{ResolvedTerm, ResolvedTerm-F, fold-ResolvedTerm, para-ResolvedTerm}}
 use Rattle.asm_tree.specs.declared.decl.Kind.TheVariants as kinds
-use Rattle.state_space.specs.Locations.{tuples, state_locations, input_locations, shape_of, shapes_of}
-use Rattle.std.specs.Option.{unwrap_or}
-use Rattle.std.specs.Int.{int_min, int_max}
-use Rattle.asm_tree.specs.declared.term.Op.{Op}
 use Rattle.asm_tree.specs.declared.term.Op.TheVariants as ops
-use Rattle.asm_names.specs.declared.program.Resolved.{Resolved}
-use Rattle.asm_names.specs.declared.resolved_term.ResolvedTerm.{ResolvedTerm}
-use Rattle.asm_names.specs.declared.resolved_term.ResolvedTerm.TheOpen.{ResolvedTerm-F}
-use Rattle.asm_names.specs.declared.resolved_term.ResolvedTerm.TheFolds.{fold-ResolvedTerm, para-ResolvedTerm}
-use Rattle.state_space.specs.declared.shape.Range.{Range}
-use Rattle.state_space.specs.declared.shape.Shape.{Shape}
-use Rattle.asm_names.specs.declared.program.Interval.{Interval}
 pub use Rattle.state_space.specs.Codomains.{In, just, whole, codomain_range, LocationsFit}
 
 -- the intervals of the binders by number, where they are in scope
@@ -30,14 +20,7 @@ hull a b = record { lo = int_min a.lo b.lo; hi = int_max a.hi b.hi }
 abbrev pub binary_range : Op → Interval → Interval → Interval
 binary_range ops.Add a b = record { lo = a.lo +ℤ b.lo; hi = a.hi +ℤ b.hi }
 binary_range ops.Sub a b = record { lo = a.lo -ℤ b.hi; hi = a.hi -ℤ b.lo }
-binary_range ops.Eq a b = truths
-binary_range ops.Ne a b = truths
-binary_range ops.Lt a b = truths
-binary_range ops.Le a b = truths
-binary_range ops.Gt a b = truths
-binary_range ops.Ge a b = truths
-binary_range ops.And a b = truths
-binary_range ops.Or a b = truths
+binary_range _ a b = truths
 
 -- one term, with the range of each part in its place
 abbrev pub range_by : List Shape → Scope → ResolvedTerm-F Interval → Interval
@@ -75,28 +58,17 @@ read_fits args (Some shape) = args_inside args shape.args
 abbrev pub sum_fits : Op → Interval → Bool
 sum_fits ops.Add sum = inside sum words
 sum_fits ops.Sub sum = inside sum words
-sum_fits ops.Eq sum = true
-sum_fits ops.Ne sum = true
-sum_fits ops.Lt sum = true
-sum_fits ops.Le sum = true
-sum_fits ops.Gt sum = true
-sum_fits ops.Ge sum = true
-sum_fits ops.And sum = true
-sum_fits ops.Or sum = true
+sum_fits _ sum = true
 
 -- a term with what is found of it
 abbrev pub Part : Type 0
 Part = ResolvedTerm × Bool
 
-abbrev pub parts_fit : List Part → Bool
-parts_fit [] = true
-parts_fit (part ∷ parts) = part.1 && parts_fit parts
-
 -- one term, with each part and whether it fits in its place
 abbrev pub fits_by : List Shape → Scope → ResolvedTerm-F Part → Bool
 fits_by shapes scope (ResolvedTerm-F.Number value) = true
 fits_by shapes scope (ResolvedTerm-F.Var binder) = is_some (slice_index_or scope binder None)
-fits_by shapes scope (ResolvedTerm-F.Read fun args) = parts_fit args && read_fits (map (λ part. range shapes scope part.0) args) (slice_get shapes fun)
+fits_by shapes scope (ResolvedTerm-F.Read fun args) = list_all (λ part. part.1) args && read_fits (map (λ part. range shapes scope part.0) args) (slice_get shapes fun)
 fits_by shapes scope (ResolvedTerm-F.Binary op left right) =
     (left.1 && right.1) && sum_fits op (binary_range op (range shapes scope left.0) (range shapes scope right.0))
 fits_by shapes scope (ResolvedTerm-F.Not inner) = inner.1

@@ -1,16 +1,8 @@
 -- The rules whose values stay in their ranges.
-use Rattle.std.specs.Prelude.{◌≡◌, ◌<◌, ℕ, ℤ, Bool, true, false, ◌&&◌, List, map, length, nat_lt, replicate, slice_set, slice_get, Option, Some, None}
-use Rattle.std.specs.List.{list_all}
-use Rattle.asm_names.specs.declared.program.Resolved.{Resolved}
-use Rattle.asm_names.specs.declared.resolved_term.ResolvedTerm.{ResolvedTerm}
-use Rattle.asm_names.specs.declared.resolved_rule.ResolvedRule.{ResolvedRule}
-use Rattle.asm_names.specs.declared.resolved_rule.ResolvedRule.TheOpen.{ResolvedRule-F}
-use Rattle.asm_names.specs.declared.resolved_rule.ResolvedRule.TheFolds.{fold-ResolvedRule}
-use Rattle.state_space.specs.declared.shape.Shape.{Shape}
-use Rattle.state_space.specs.Locations.{range_of, shapes_of}
-use Rattle.asm_names.specs.declared.program.Interval.{Interval}
+use Rattle.std.specs.{Prelude.{◌≡◌, ◌<◌, ℕ, ℤ, Bool, true, false, ◌&&◌, List, map, length, nat_lt, replicate, slice_set, slice_get, Option, Some, None}, List.{list_all}}
+use Rattle.asm_names.specs.declared.{program.{Resolved.{Resolved}, Interval.{Interval}}, resolved_term.ResolvedTerm.{ResolvedTerm}, resolved_rule.ResolvedRule.{ResolvedRule, ResolvedRule-F, fold-ResolvedRule}}
+use Rattle.state_space.specs.{declared.shape.Shape.{Shape}, Locations.{range_of, shapes_of}, Codomains.{whole, In}}
 use Rattle.asm_ranges.specs.Ranges.{Scope, range, fits, inside, args_inside, EnvFits}
-use Rattle.state_space.specs.Codomains.{whole, In}
 
 -- the arguments are inside the function's domains, and the value is inside its codomain
 abbrev pub write_fits : List Interval → Interval → Option Shape → Bool

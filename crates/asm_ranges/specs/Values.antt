@@ -1,17 +1,10 @@
 -- What a term stands for in a state.
-use Rattle.std.specs.Prelude.{ℕ, ℤ, pos, ◌+ℤ◌, ◌-ℤ◌, Bool, true, false, not, ◌&&◌, ◌||◌, List, [], map, int_lt, int_le, slice_index_or, if◌then◌else◌, Option, Some, None}
-use Rattle.std.specs.Int.{int_min, int_max}
-use Rattle.std.specs.Ordering.{int_eq}
-use Rattle.asm_tree.specs.declared.decl.Kind.{Kind}
-use Rattle.asm_tree.specs.declared.decl.Kind.TheVariants as kinds
-use Rattle.asm_tree.specs.declared.term.Op.{Op}
-use Rattle.asm_tree.specs.declared.term.Op.TheVariants as ops
-use Rattle.asm_names.specs.declared.program.Fun.{Fun}
-use Rattle.asm_names.specs.declared.program.Resolved.{Resolved}
-use Rattle.asm_names.specs.declared.resolved_term.ResolvedTerm.{ResolvedTerm}
-use Rattle.asm_names.specs.declared.resolved_term.ResolvedTerm.TheOpen.{ResolvedTerm-F}
-use Rattle.asm_names.specs.declared.resolved_term.ResolvedTerm.TheFolds.{fold-ResolvedTerm}
+use Rattle.std.specs.{Prelude.{ℕ, ℤ, pos, ◌+ℤ◌, ◌-ℤ◌, Bool, true, false, not, ◌&&◌, ◌||◌, List, [], map, int_lt, int_le, slice_index_or, if◌then◌else◌, Option, Some, None}, Int.{int_min, int_max}, Ordering.{int_eq}}
+use Rattle.asm_tree.specs.declared.{decl.Kind.{Kind}, term.Op.{Op}}
+use Rattle.asm_names.specs.declared.{program.{Fun.{Fun}, Resolved.{Resolved}}, resolved_term.ResolvedTerm.{ResolvedTerm, ResolvedTerm-F, fold-ResolvedTerm}}
 use Rattle.state_space.specs.Locations.{place_among, tuple_number, state_locations, input_locations, range_of, shapes_of}
+use Rattle.asm_tree.specs.declared.decl.Kind.TheVariants as kinds
+use Rattle.asm_tree.specs.declared.term.Op.TheVariants as ops
 
 -- What a step reads: the values of the state's locations and of the input locations, each in its order, and of the
 -- binders by number.

@@ -3,9 +3,7 @@
 ghost use Rattle.std.specs.Prelude.{◌≡◌, ◌^◌, ◌≤◌, true};
 ghost use Rattle.asm_names.specs.ResolvedPlaces.{resolved_term_tokens};
 ghost use Rattle.state_space.specs.Locations.{shapes_of};
-ghost use Rattle.asm_ranges.specs.Ranges.{range};
-ghost use Rattle.asm_ranges.specs.RangeFaults.{known, program_intervals};
-ghost use Rattle.asm_ranges.specs.Finding.{small_numbers};
+ghost use Rattle.asm_ranges.specs.{Ranges.{range}, RangeFaults.{known, program_intervals}, Finding.{small_numbers}};
 
 use crate::checked::Checked;
 use crate::reader::Reader;

@@ -1,16 +1,11 @@
 //! The ranges of whole programs.
 
-ghost use Rattle.std.specs.Prelude.{◌≡◌, ◌+◌, ◌^◌, ◌≤◌, ◌<◌, [], true, length, pos, replicate, MatchOption};
-ghost use Rattle.std.specs.List.{AllByRecursion};
-ghost use Rattle.asm_names.specs.Places.{program_tokens};
-ghost use Rattle.asm_names.specs.ResolvedPlaces.{resolved_rule_tokens};
+ghost use Rattle.std.specs.{Prelude.{◌≡◌, ◌+◌, ◌^◌, ◌≤◌, ◌<◌, [], true, length, pos, replicate, MatchOption}, List.{AllByRecursion}};
+ghost use Rattle.asm_names.specs.{Places.{program_tokens}, ResolvedPlaces.{resolved_rule_tokens}, WellFormed.{IsWellFormed}};
 ghost use Rattle.state_space.specs.Locations.{shapes_of};
-ghost use Rattle.asm_names.specs.WellFormed.{IsWellFormed};
-ghost use Rattle.asm_ranges.specs.Faults.{Ascending, Judges};
+ghost use Rattle.asm_ranges.specs.{Faults.{Ascending, Judges}, Finding.{IsReady, IsWord, small_numbers, shapes_in}, Keeping.{Keeps}};
 ghost use Rattle.asm_ranges.specs.Ranges as intervals;
 ghost use Rattle.asm_ranges.specs.RangeFaults as ranges;
-ghost use Rattle.asm_ranges.specs.Finding.{IsReady, IsWord, small_numbers, shapes_in};
-ghost use Rattle.asm_ranges.specs.Keeping.{Keeps};
 
 use crate::checked::Checked;
 use crate::fault::RangeEnd;

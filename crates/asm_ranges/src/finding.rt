@@ -1,12 +1,10 @@
 //! What is found of a term.
 
-ghost use Rattle.std.specs.Prelude.{◌≡◌, ◌+◌, ◌<◌, ◌^◌, ◌++◌, [], not};
+ghost use Rattle.std.specs.{Prelude.{◌≡◌, ◌+◌, ◌<◌, ◌^◌, ◌++◌, [], not}, Int.{int_min, int_max}};
+ghost use Rattle.asm_ranges.specs.{RangeFaults.{outside_faults}, Finding.{Finds, IsNear, IsWord}};
 ghost use Rattle.asm_ranges.specs.declared.fault.RangeEnd.TheVariants as ends;
 ghost use Rattle.asm_ranges.specs.Faults as faults;
 ghost use Rattle.asm_ranges.specs.Ranges as ranges;
-ghost use Rattle.std.specs.Int.{int_min, int_max};
-ghost use Rattle.asm_ranges.specs.RangeFaults.{outside_faults};
-ghost use Rattle.asm_ranges.specs.Finding.{Finds, IsNear, IsWord};
 
 use crate::fault::RangeEnd;
 use asm_names::Interval;

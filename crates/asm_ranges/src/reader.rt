@@ -1,16 +1,10 @@
 //! The ranges and faults of terms. `at` is the number of a term's first token.
 
-ghost use Rattle.std.specs.Prelude.{◌≡◌, ◌+◌, ◌^◌, ◌<◌, ◌≤◌, pos, true, map, None, slice_get, slice_index_or};
-ghost use Rattle.std.specs.List.{list_all};
-ghost use Rattle.std.specs.Option.{unwrap_or, option_map};
-ghost use Rattle.asm_names.specs.declared.resolved_term.ResolvedTerm.TheOpen.{ResolvedTerm-F};
-ghost use Rattle.asm_names.specs.Places.{parted, in_parentheses};
-ghost use Rattle.asm_names.specs.ResolvedPlaces.{resolved_term_tokens};
-ghost use Rattle.state_space.specs.Locations.{range_of};
-ghost use Rattle.state_space.specs.Codomains.{just, whole, codomain_range};
+ghost use Rattle.std.specs.{Prelude.{◌≡◌, ◌+◌, ◌^◌, ◌<◌, ◌≤◌, pos, true, map, None, slice_get, slice_index_or}, List.{list_all}, Option.{unwrap_or, option_map}};
+ghost use Rattle.asm_names.specs.{declared.resolved_term.ResolvedTerm.{ResolvedTerm-F}, Places.{parted, in_parentheses}, ResolvedPlaces.{resolved_term_tokens}};
+ghost use Rattle.state_space.specs.{Locations.{range_of}, Codomains.{just, whole, codomain_range}};
+ghost use Rattle.asm_ranges.specs.{RangeFaults.{args_faults, domains_of, faulty_term}, Finding.{small_numbers, IsReady, FindsParts, FindsTerm, FindsLayer, layer_small, layer_tokens, shapes_in}};
 ghost use Rattle.asm_ranges.specs.RangeFaults as ranges;
-ghost use Rattle.asm_ranges.specs.RangeFaults.{args_faults, domains_of, faulty_term};
-ghost use Rattle.asm_ranges.specs.Finding.{small_numbers, IsReady, FindsParts, FindsTerm, FindsLayer, layer_small, layer_tokens, shapes_in};
 
 use crate::finding::{
     Found, Parts, binary_range, both, closed, either, greater, hull, just, leaf, lesser, truths,

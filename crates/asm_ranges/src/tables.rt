@@ -2,8 +2,8 @@
 
 ghost use Rattle.std.specs.Prelude.{◌≡◌, ◌+◌, ◌^◌, ◌≤◌, ◌<◌, slice_get};
 ghost use Rattle.asm_names.specs.DeclFaults.{constants_of};
-ghost use Rattle.asm_names.specs.Places as places;
 ghost use Rattle.asm_ranges.specs.Faults.{Judges};
+ghost use Rattle.asm_names.specs.Places as places;
 ghost use Rattle.asm_ranges.specs.RangeFaults as ranges;
 
 use crate::fault::RangeEnd;

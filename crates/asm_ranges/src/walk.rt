@@ -1,15 +1,9 @@
 //! The faults of rules, and the intervals of their binders. `at` is the number of a rule's first token.
 
-ghost use Rattle.std.specs.Prelude.{◌≡◌, ◌+◌, ◌^◌, ◌≤◌, ◌<◌, ◌++◌, true, map, slice_get, slice_set};
-ghost use Rattle.std.specs.List.{list_all};
-ghost use Rattle.asm_names.specs.declared.resolved_rule.ResolvedRule.TheOpen.{ResolvedRule-F};
-ghost use Rattle.asm_names.specs.Places.{in_parentheses, led};
-ghost use Rattle.asm_names.specs.ResolvedPlaces.{resolved_term_tokens, resolved_rule_tokens, led_if};
-ghost use Rattle.asm_ranges.specs.Faults.{Judges};
-ghost use Rattle.asm_ranges.specs.Ranges.{range};
+ghost use Rattle.std.specs.{Prelude.{◌≡◌, ◌+◌, ◌^◌, ◌≤◌, ◌<◌, ◌++◌, true, map, slice_get, slice_set}, List.{list_all}};
+ghost use Rattle.asm_names.specs.{declared.resolved_rule.ResolvedRule.{ResolvedRule-F}, Places.{in_parentheses, led}, ResolvedPlaces.{resolved_term_tokens, resolved_rule_tokens, led_if}};
+ghost use Rattle.asm_ranges.specs.{Faults.{Judges}, Ranges.{range}, Finding.{small_numbers, IsReady, IsWord, shapes_in}, FindingRules.{plain, Settles, Passes, JudgesRule, JudgesRuleLayer, faulty_rule, layer_plain, rule_layer_tokens}};
 ghost use Rattle.asm_ranges.specs.RangeFaults as ranges;
-ghost use Rattle.asm_ranges.specs.Finding.{small_numbers, IsReady, IsWord, shapes_in};
-ghost use Rattle.asm_ranges.specs.FindingRules.{plain, Settles, Passes, JudgesRule, JudgesRuleLayer, faulty_rule, layer_plain, rule_layer_tokens};
 
 use crate::fault::RangeEnd;
 use crate::reader::{Reader, domain_interval};

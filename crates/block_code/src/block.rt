@@ -64,7 +64,7 @@ pub(crate) fn tree_len(tree: &Tree) -> u64
     ensures { result ≡ plan.len (plan_of tree.now) }
 {
     match tree {
-        Tree::Line(instrs) => instrs.len() as u64,
+        Tree::Line(instrs) => instrs.list().len() as u64,
         Tree::Seq(first, second) => tree_len(first) + tree_len(second),
         Tree::If {
             then_part,
@@ -88,7 +88,7 @@ fn tree_full(tree: &Tree) -> u64
     ensures { result ≡ plan.full (plan_of tree.now) }
 {
     match tree {
-        Tree::Line(instrs) => instrs.len() as u64,
+        Tree::Line(instrs) => instrs.list().len() as u64,
         Tree::Seq(first, second) => tree_full(first) + tree_full(second),
         Tree::If {
             then_part,
@@ -115,7 +115,7 @@ fn tree_entry(tree: &Tree) -> u64
     ensures { result ≡ plan.entry (plan_of tree.now) }
 {
     match tree {
-        Tree::Line(instrs) => instrs.len() as u64,
+        Tree::Line(instrs) => instrs.list().len() as u64,
         Tree::Seq(first, second) => {
             (tree_entry(first) + tree_full(second)).max(tree_entry(second))
         }

@@ -1,7 +1,7 @@
 //! The code of a block, and its words.
 
-ghost use Rattle.std.specs.Prelude.{◌≡◌, ◌+◌, ◌≤◌, OnErr, OnOk, length};
-ghost use Rattle.block_code.specs.Emit.{HasBegun, HasGrown};
+ghost use Rattle.std.specs.Prelude.{◌≡◌, ◌+◌, ◌≤◌, ◌++◌, OnErr, OnOk, length};
+ghost use Rattle.block_code.specs.Emit.{HasBegun, HasGrown, IsEmitted};
 ghost use Rattle.block_code.specs.Tree.{plan_of};
 ghost use Rattle.block_laws.specs.Block.{IsBlock};
 ghost use Rattle.block_laws.specs.Plan as plan;
@@ -19,8 +19,7 @@ use std::alloc::AllocError;
 ///
 /// `AllocError` where there is no memory for a word; those before it were appended.
 fn append(out: &mut Words, code: &[Instr]) -> Result<(), AllocError>
-    ensures ok { OnOk result (HasGrown code.now out.old out.new) }
-    ensures err { OnErr result (HasBegun code.now out.old out.new) }
+    ensures { IsEmitted result code.now out.old out.new }
 {
     for instr in code {
         out.push(encode(*instr))?;
@@ -28,36 +27,33 @@ fn append(out: &mut Words, code: &[Instr]) -> Result<(), AllocError>
     Ok(())
 }
 
-/// Appends the words of a tree that keeps the rules of blocks.
+/// Appends the words of instructions, and then those of a tree that keeps the rules of blocks.
 ///
 /// # Errors
 ///
-/// `AllocError` where there is no memory; the words of a first part of the tree's code were then appended.
-fn emit_tree(tree: &Tree, out: &mut Words) -> Result<(), AllocError>
+/// `AllocError` where there is no memory; the words of a first part of this code were then appended.
+fn emit_behind(before: &[Instr], tree: &Tree, out: &mut Words) -> Result<(), AllocError>
     requires block { IsBlock (plan_of tree.now) }
     requires short { plan.len (plan_of tree.now) ≤ 262144 }
-    ensures ok { OnOk result (HasGrown (plan.code (plan_of tree.now)) out.old out.new) }
-    ensures err { OnErr result (HasBegun (plan.code (plan_of tree.now)) out.old out.new) }
+    ensures { IsEmitted result (before.now ++ plan.code (plan_of tree.now)) out.old out.new }
 {
+    append(out, before)?;
     match tree {
-        Tree::Line(instrs) => append(out, instrs.as_slice()),
+        Tree::Line(instrs) => append(out, instrs.list()),
         Tree::Seq(first, second) => {
-            emit_tree(first, out)?;
-            emit_tree(second, out)
+            emit_behind(&[], first, out)?;
+            emit_behind(&[], second, out)
         }
         Tree::If {
             test,
             then_part,
             else_part,
         } => {
-            append(out, &choice(*test, tree_len(then_part) + 2))?;
-            emit_tree(then_part, out)?;
-            append(out, &[forward(tree_len(else_part) + 1)])?;
-            emit_tree(else_part, out)
+            emit_behind(&choice(*test, tree_len(then_part) + 2), then_part, out)?;
+            emit_behind(&[forward(tree_len(else_part) + 1)], else_part, out)
         }
         Tree::Loop { count, slot, body } => {
-            append(out, &head(*count, *slot, tree_len(body) + 6))?;
-            emit_tree(body, out)?;
+            emit_behind(&head(*count, *slot, tree_len(body) + 6), body, out)?;
             append(out, &tail(*slot, tree_len(body) + 10))
         }
         Tree::Scan {
@@ -68,13 +64,10 @@ fn emit_tree(tree: &Tree, out: &mut Words) -> Result<(), AllocError>
             found,
             none,
         } => {
-            let words = tree_len(guard) + tree_len(found) + 8;
-            append(out, &head(*count, *slot, words))?;
-            emit_tree(guard, out)?;
-            append(out, &judged_tail(*test, *slot, tree_len(guard) + 11))?;
-            emit_tree(found, out)?;
-            append(out, &[forward(tree_len(none) + 1)])?;
-            emit_tree(none, out)
+            let words = tree_len(guard) + tree_len(found);
+            emit_behind(&head(*count, *slot, words + 8), guard, out)?;
+            emit_behind(&judged_tail(*test, *slot, tree_len(guard) + 11), found, out)?;
+            emit_behind(&[forward(tree_len(none) + 1)], none, out)
         }
     }
 }
@@ -89,5 +82,5 @@ pub fn emit(block: &Block, out: &mut Words) -> Result<(), AllocError>
     ensures len { OnOk result (length out.new ≡ length out.old + plan.len (plan_of block.now)) }
     ensures err { OnErr result (HasBegun (plan.code (plan_of block.now)) out.old out.new) }
 {
-    emit_tree(block.tree(), out)
+    emit_behind(&[], block.tree(), out)
 }

@@ -4,10 +4,13 @@
 
 mod block;
 mod emission;
+mod instrs;
 mod operands;
 mod own;
+pub mod sequence;
 mod tree;
 
 pub use block::{Block, entry, full, len};
 pub use emission::emit;
-pub use tree::{Instrs, Tree};
+pub use instrs::Instrs;
+pub use tree::Tree;

@@ -1,18 +1,17 @@
 //! The code that blocks have of their own.
 
 ghost use Rattle.std.specs.Prelude.{◌≡◌, ℕ, ℤ, pos, ◌+◌, ◌<◌, ◌≤◌, ◌^◌, ◌⊎◌, ◌++◌, ◌∷◌, []};
-ghost use Rattle.rv_isa.specs.Operand.{IsImm12, IsImmU, IsReg};
 ghost use Rattle.rv_isa.specs.declared.instr.Instr.TheVariants as instr;
 ghost use Rattle.block_laws.specs.Plan as plan;
 
-use crate::operands::{imm_b, imm_j, imm_u, imm12, reg};
+use crate::operands::{imm_b, imm_j, imm12, reg};
+use crate::sequence::{
+    SCRATCH, high_part, load_fixed, load_immediate, low_part, ram_address, store_fixed,
+};
 use rv_isa::{Instr, Reg};
-
-const SCRATCH: u32 = 21;
+use trap_model::Width;
 
 const OTHER_SCRATCH: u32 = 22;
-
-const RAM_BASE: u32 = 0x1000_0000;
 
 /// A jump over so many words forward.
 pub(crate) fn forward(words: u64) -> Instr
@@ -56,77 +55,27 @@ pub(crate) fn choice(test: Reg, words: u64) -> [Instr; 2]
     [skip_if_set(test, 8), forward(words)]
 }
 
-/// The high part of a word.
-fn high_part(value: u32) -> u32
-    requires { value < 2 ^ 31 }
-    ensures value { result ≡ plan.high_part value }
-    ensures range { IsImmU result }
-{
-    (value + 2048) / 4096
-}
-
-/// The low part of a word, from -2048 to 2047.
-fn low_part(value: u32) -> i32
-    ensures value { result ≡ plan.low_part value }
-    ensures range { IsImm12 result }
-{
-    let low = (value % 4096) as i32;
-    if low < 2048 { low } else { low - 4096 }
-}
-
 /// The counter becomes 0.
 fn reset(slot: u32) -> [Instr; 2]
     requires { slot < 2 ^ 20 }
     ensures { result ≡ plan.reset slot }
 {
-    let high = imm_u(high_part(RAM_BASE + slot));
-    let low = imm12(low_part(RAM_BASE + slot));
-    [
-        Instr::Lui {
-            rd: reg(SCRATCH),
-            imm: high,
-        },
-        Instr::Sw {
-            rs1: reg(SCRATCH),
-            rs2: reg(0),
-            imm: low,
-        },
-    ]
+    store_fixed(Width::Word, reg(0), slot)
 }
 
 /// The counter and the count are loaded.
 fn compared(count: u32, slot: u32) -> [Instr; 4]
-    requires count { count ≤ 524288 }
-    requires slot { slot < 2 ^ 20 }
+    requires { slot < 2 ^ 20 }
     ensures { result ≡ plan.compared count slot }
 {
-    let high = imm_u(high_part(RAM_BASE + slot));
-    let low = imm12(low_part(RAM_BASE + slot));
-    [
-        Instr::Lui {
-            rd: reg(SCRATCH),
-            imm: high,
-        },
-        Instr::Lw {
-            rd: reg(SCRATCH),
-            rs1: reg(SCRATCH),
-            imm: low,
-        },
-        Instr::Lui {
-            rd: reg(OTHER_SCRATCH),
-            imm: imm_u(high_part(count)),
-        },
-        Instr::Addi {
-            rd: reg(OTHER_SCRATCH),
-            rs1: reg(OTHER_SCRATCH),
-            imm: imm12(low_part(count)),
-        },
-    ]
+    let [page, counter] = load_fixed(Width::Word, reg(SCRATCH), slot);
+    let [high, low] = load_immediate(reg(OTHER_SCRATCH), count);
+    [page, counter, high, low]
 }
 
 /// A skip over the next word where the counter is below the count.
 fn skip_if_below() -> Instr
-    ensures { result ≡ instr.Bltu 21 22 (pos 8) }
+    ensures { result ≡ plan.skip_below }
 {
     Instr::Bltu {
         rs1: reg(SCRATCH),
@@ -140,8 +89,8 @@ fn raised(slot: u32) -> [Instr; 4]
     requires { slot < 2 ^ 20 }
     ensures { result ≡ plan.raised slot }
 {
-    let high = imm_u(high_part(RAM_BASE + slot));
-    let low = imm12(low_part(RAM_BASE + slot));
+    let high = high_part(ram_address(slot));
+    let low = low_part(ram_address(slot));
     [
         Instr::Lui {
             rd: reg(OTHER_SCRATCH),
@@ -167,10 +116,9 @@ fn raised(slot: u32) -> [Instr; 4]
 
 /// The code of a loop or a scan before its body or guard, with the jump over so many words behind it.
 pub(crate) fn head(count: u32, slot: u32, words: u64) -> [Instr; 8]
-    requires count { count ≤ 524288 }
     requires slot { slot < 2 ^ 20 }
     requires words { words < 262144 }
-    ensures { result ≡ plan.reset slot ++ (plan.compared count slot ++ instr.Bltu 21 22 (pos 8) ∷ plan.forward words ∷ []) }
+    ensures { result ≡ plan.reset slot ++ (plan.compared count slot ++ plan.skip_below ∷ plan.forward words ∷ []) }
 {
     let [enter, store] = reset(slot);
     let [page, counter, high, low] = compared(count, slot);

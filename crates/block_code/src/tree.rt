@@ -1,10 +1,7 @@
 //! Code by its structure.
 
-use rv_isa::{Instr, Reg};
-use sqlite_items::Items;
-
-/// A list of instructions.
-pub type Instrs = Items<Instr>;
+use crate::instrs::Instrs;
+use rv_isa::Reg;
 
 /// Code by its structure. A slot is the offset in bytes of a word of RAM, which holds a counter.
 #[derive(Drop)]

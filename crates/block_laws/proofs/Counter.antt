@@ -4,7 +4,7 @@ use Rattle.std.proofs.lemmas.Bool.{cases_lt}
 use Rattle.std.proofs.lemmas.Bool.Decides.{nat_tests}
 use Rattle.std.specs.Prelude.{nat_lt}
 use Rattle.rv_isa.specs.declared.instr.Instr.{Instr}
-use Rattle.rv_isa.specs.declared.instr.Instr.TheVariants.{Addi, Bltu, Lui, Lw, Sw}
+use Rattle.rv_isa.specs.declared.instr.Instr.TheVariants.{Addi, Lui, Lw, Sw}
 use Rattle.rv_machine.specs.Code.{Stands, step}
 use Rattle.rv_machine.specs.Hart.{with_reg}
 use Rattle.rv_machine.specs.Memory.{stored}
@@ -15,32 +15,26 @@ use Rattle.trap_model.specs.declared.map.Loads.{Loads}
 use Rattle.trap_model.specs.declared.map.Stores.{Stores}
 use Rattle.block_laws.specs.Block.{IsCount, IsSlot}
 use Rattle.block_laws.specs.During.{Allows, During, IsQuiet}
-use Rattle.block_laws.specs.Effect.{Own, moved, reg_at}
+use Rattle.block_laws.specs.Effect.{Own, moved, reg_at, saved, written}
 use Rattle.block_laws.specs.Ends.{Ends}
 use Rattle.block_laws.specs.Moment.{IsValidMoment, Moment, is_trap}
 use Rattle.block_laws.specs.Place.{IsMachine, Within, word_in}
-use Rattle.block_laws.specs.Plan.{backward, compared, forward, high_part, low_part, other_scratch, raised, reset, scratch}
+use Rattle.block_laws.specs.Plan.{backward, compared, forward, raised, reset, skip_below}
+use Rattle.block_laws.specs.Sequence.{high_part, low_part, other_scratch, scratch}
 use Rattle.block_laws.proofs.Ends.{ends-more}
 use Rattle.block_laws.proofs.Forms.{branches, jumps, plus-backward, plus-forward, step-still}
 use Rattle.block_laws.proofs.Machine.{computed, displaced, load_at-past, load_at-ram, store_at-past, store_at-ram}
 use Rattle.block_laws.proofs.Steps.{fetched-place, next-at, step-on, step-stop, traps-at}
 use Rattle.trap_model.specs.declared.width.Width.TheVariants.{Word}
-use Rattle.block_laws.proofs.Machine.{does-addi, does-bltu, does-lui, does-lw, does-sw, word-is}
+use Rattle.block_laws.proofs.Machine.{does-addi, does-skip_below, does-lui, does-lw, does-store, word-is, takes}
 
 -- a word is the sum of its parts
-pub split : (x : ℕ) → x < 2 ^ 31 → displaced (high_part x * 2 ^ 12 % 2 ^ 32) (low_part x) ≡ x
+pub split : (x : ℕ) → x < 2 ^ 32 → displaced (high_part x * 2 ^ 12 % 2 ^ 32) (low_part x) ≡ x
 split x h = cases (nat_lt (x % 4096) 2048) refl
   where
     cases : (b : Bool) → nat_lt (x % 4096) 2048 ≡ b → displaced (high_part x * 2 ^ 12 % 2 ^ 32) (cond b (pos (x % 4096)) (negsuc (4095 - x % 4096))) ≡ x
     cases true e = let k : x % 4096 < 2048 = grind (arith, nat_tests) in omega arith
     cases false e = let k : 2048 ≤ x % 4096 = grind (arith, nat_tests) in omega arith
-
--- the moment at the next place, with a register or a word of RAM anew
-abbrev pub written : ℕ → ℕ → ℕ → Moment → Moment
-written past rd x s = record { hart = record { pc = past; regs = with_reg rd x s.hart.regs; ram = s.hart.ram }; readings = s.readings; log = s.log }
-
-abbrev pub saved : ℕ → ℕ → ℕ → Moment → Moment
-saved past slot x s = record { hart = record { pc = past; regs = s.hart.regs; ram = stored 4 slot x s.hart.ram }; readings = s.readings; log = s.log }
 
 pub reg-same : (size past r x : ℕ) (s : Moment) → IsValidMoment size s → suc r < 32 → reg_at (suc r) (written past (suc r) x s) ≡ x
 reg-same size past r x s v h =
@@ -69,7 +63,7 @@ module _ (rom : List ℕ) (size : ℕ) (machine : IsMachine rom size) (Q : Momen
     loads-word s rd rs1 imm past f e to low inside valid rest none =
         ⊎_elim
         (λ h. computes s (Lw rd rs1 imm) rd (word_in slot s.hart.ram) past f
-        (does-lw rom (offered s.readings) s.hart rd rs1 imm ∙ ap by (from_address ∙ load_at-ram (4 * length rom) size slot machine.rom_small h machine.ram_small is_slot.aligned) ∙ ap (computed s.hart rd) (word-is slot s.hart.ram)) to low inside valid (rest h))
+        (does-lw rom (offered s.readings) s.hart rd rs1 imm ∙ ap by (from_address ∙ load_at-ram Word size slot (4 * length rom) machine.rom_small h is_slot.aligned) ∙ ap (computed s.hart rd) (word-is slot s.hart.ram)) to low inside valid (rest h))
         (λ h.
         let stops = does-lw rom (offered s.readings) s.hart rd rs1 imm ∙ ap by (from_address ∙ load_at-past (4 * length rom) size slot machine.rom_small h is_slot.low) in
         step-stop rom size machine s (Lw rd rs1 imm) (trap s.hart) f stops refl
@@ -84,7 +78,7 @@ module _ (rom : List ℕ) (size : ℕ) (machine : IsMachine rom size) (Q : Momen
 
     pub stores-word : {from to : ℕ} {G C : Moment → Type 0} {n : ℕ} (s : Moment) (rs1 rs2 : ℕ) (imm : ℤ) (past : ℕ) → fetched rom s.hart.pc ≡ Some (Sw rs1 rs2 imm)
         → displaced (reg_at rs1 s) imm ≡ ram_base + slot → s.hart.pc + 4 ≡ past → past < 2 ^ 32 → Within from to s → IsValidMoment size s
-        → (slot < size → IsValidMoment size (saved past slot (reg_at rs2 s) s) → Ends rom (During Q from to) G C n (saved past slot (reg_at rs2 s) s))
+        → (slot < size → IsValidMoment size (saved past 4 slot (reg_at rs2 s) s) → Ends rom (During Q from to) G C n (saved past 4 slot (reg_at rs2 s) s))
         → (size ≤ slot → C s) → Ends rom (During Q from to) G C (suc n) s
     stores-word s rs1 rs2 imm past f e to low inside valid rest none =
         ⊎_elim
@@ -92,12 +86,12 @@ module _ (rom : List ℕ) (size : ℕ) (machine : IsMachine rom size) (Q : Momen
         let next_pc : (s.hart.pc + 4) % 2 ^ 32 ≡ past = omega arith in
         let t : Ticks = record { hart = record { pc = past; regs = s.hart.regs; ram = stored 4 slot (reg_at rs2 s) s.hart.ram }; event = Quiet } in
         let does : step rom (offered s.readings) (Sw rs1 rs2 imm) s.hart ≡ t =
-        does-sw rom (offered s.readings) s.hart rs1 rs2 imm ∙ ap by (from_address ∙ store_at-ram size slot h machine.ram_small is_slot.aligned)
+        does-store rom (offered s.readings) s.hart Word rs1 rs2 imm ∙ ap by (from_address ∙ store_at-ram Word size slot h is_slot.aligned)
         ∙ ap (λ p. record { hart = record { pc = p; regs = s.hart.regs; ram = stored 4 slot (reg_at rs2 s) s.hart.ram }; event = Quiet }) next_pc in
         step-on rom size machine s (Sw rs1 rs2 imm) t f does refl
         (inside, allowed s (reg_at rs2 s) h valid (ap (λ x. x.hart.ram) (next-at rom s (Sw rs1 rs2 imm) f) ∙ ap (λ x. x.hart.ram) does)) valid (rest h))
         (λ h.
-        let stops = does-sw rom (offered s.readings) s.hart rs1 rs2 imm ∙ ap by (from_address ∙ store_at-past size slot h is_slot.low) in
+        let stops = does-store rom (offered s.readings) s.hart Word rs1 rs2 imm ∙ ap by (from_address ∙ store_at-past Word size slot h is_slot.low) in
         step-stop rom size machine s (Sw rs1 rs2 imm) (trap s.hart) f stops refl
         (inside, quiet.stopped s (traps-at rom s (Sw rs1 rs2 imm) f ∙ ap (λ x. is_trap x.event) stops)) (none h))
         (cases_lt slot size)
@@ -108,7 +102,7 @@ module _ (rom : List ℕ) (size : ℕ) (machine : IsMachine rom size) (Q : Momen
         from_address : store_at (length s.hart.ram) (displaced (reg_at rs1 s) imm) 4 ≡ store_at size (ram_base + slot) 4
         from_address = ap (λ n. store_at n (displaced (reg_at rs1 s) imm) 4) valid.hart.ram.count ∙ ap (λ a. store_at size a 4) e
 
-    low : ram_base + slot < 2 ^ 31
+    low : ram_base + slot < 2 ^ 32
     low = let l = is_slot.low in omega arith
 
     whole : displaced (high_part (ram_base + slot) * 2 ^ 12 % 2 ^ 32) (low_part (ram_base + slot)) ≡ ram_base + slot
@@ -127,10 +121,10 @@ module _ (rom : List ℕ) (size : ℕ) (machine : IsMachine rom size) (Q : Momen
         ends-more rom (2 + n) (omega arith)
         (computes {n = suc n} s (Lui scratch (high_part (ram_base + slot))) scratch v (address + 4) (subst (λ a. fetched rom a ≡ Some (Lui scratch (high_part (ram_base + slot)))) (sym at) stands.0)
         (does-lui rom (offered s.readings) s.hart scratch (high_part (ram_base + slot))) (omega arith) (omega (arith, place.1)) (record { from = omega arith; below = omega arith }) valid (λ v1.
-        stores-word {n = n} s1 scratch 0 (low_part (ram_base + slot)) (address + 8) stands.1.0
+        stores-word {n = n} s1 scratch _ (low_part (ram_base + slot)) (address + 8) stands.1.0
         (ap (λ x. displaced x (low_part (ram_base + slot))) (reg-same size (address + 4) 20 v s valid (omega arith)) ∙ whole)
         (omega arith) (omega (arith, place.1)) (record { from = omega arith; below = omega arith }) v1
-        (λ h v2. rest h (saved (address + 8) slot (reg_at 0 s1) s1) v2 (record {
+        (λ h v2. rest h _ v2 (record {
           pc = refl;
           regs = λ r a b. reg-other (address + 4) scratch r v s a;
           ram = ap (λ x. stored 4 slot x s.hart.ram) v1.hart.regs.zero_reg;
@@ -143,7 +137,7 @@ module _ (rom : List ℕ) (size : ℕ) (machine : IsMachine rom size) (Q : Momen
 
     -- from the head, on into the body where the counter is below the count, else out
     pub compare-then : {G C : Moment → Type 0} {n : ℕ} (from to head count words out : ℕ) (s : Moment) → IsCount count → Stands rom head (compared count slot)
-        → fetched rom (head + 16) ≡ Some (Bltu scratch other_scratch (pos 8)) → fetched rom (head + 20) ≡ Some (forward words)
+        → fetched rom (head + 16) ≡ Some skip_below → fetched rom (head + 20) ≡ Some (forward words)
         → out ≡ head + 20 + 4 * words → out ≤ 2 ^ 20 → from ≤ head → head + 24 ≤ to → s.hart.pc ≡ head → IsValidMoment size s
         → (slot < size → word_in slot s.hart.ram < count → (s' : Moment) → IsValidMoment size s' → Own (head + 24) s.hart.ram s s' → Ends rom (During Q from to) G C n s')
         → (slot < size → count ≤ word_in slot s.hart.ram → (s' : Moment) → IsValidMoment size s' → Own out s.hart.ram s s' → Ends rom (During Q from to) G C n s')
@@ -182,8 +176,8 @@ module _ (rom : List ℕ) (size : ℕ) (machine : IsMachine rom size) (Q : Momen
         let others : (r : ℕ) → r ≢ scratch → r ≢ other_scratch → reg_at r s4 ≡ reg_at r s =
         λ r a b. reg-other (head + 16) other_scratch r x s3 b ∙ reg-other (head + 12) other_scratch r k s2 b ∙ reg-other (head + 8) scratch r c s1 a ∙ reg-other (head + 4) scratch r v s a in
         ends-more rom (2 + n) (omega arith)
-        (branches rom size machine Q quiet {n = 1 + n} s4 (Bltu scratch other_scratch (pos 8)) (nat_lt (reg_at scratch s4) (reg_at other_scratch s4)) 8 (head + 24) (head + 20) test_at
-        (does-bltu rom (offered s4.readings) s4.hart scratch other_scratch (pos 8)) (omega arith) (omega arith) (omega (arith, place)) (omega arith) (omega (arith, place)) (record { from = omega arith; below = omega arith }) v4
+        (branches rom size machine Q quiet {n = 1 + n} s4 skip_below (takes skip_below s4.hart) 8 (head + 24) (head + 20) test_at
+        (does-skip_below rom (offered s4.readings) s4.hart) (omega arith) (omega arith) (omega (arith, place)) (omega arith) (omega (arith, place)) (record { from = omega arith; below = omega arith }) v4
         (λ taken w.
         let less : reg_at scratch s4 < reg_at other_scratch s4 = grind (arith, nat_tests) in
         ends-more rom (1 + n) (omega arith)
@@ -210,7 +204,7 @@ module _ (rom : List ℕ) (size : ℕ) (machine : IsMachine rom size) (Q : Momen
         let s2 = written (address + 8) scratch c s1 in
         let x = displaced (reg_at scratch s2) (pos 1) in
         let s3 = written (address + 12) scratch x s2 in
-        let s4 = saved (address + 16) slot (reg_at scratch s3) s3 in
+        let s4 = saved (address + 16) 4 slot (reg_at scratch s3) s3 in
         ends-more rom (5 + n) (omega arith)
         (computes {n = 4 + n} s (Lui other_scratch (high_part (ram_base + slot))) other_scratch v (address + 4)
         (subst (λ a. fetched rom a ≡ Some (Lui other_scratch (high_part (ram_base + slot)))) (sym at) stands.0)

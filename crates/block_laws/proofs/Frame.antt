@@ -20,7 +20,7 @@ module _ (rom : List ℕ) (slot : ℕ) where
   tick-quiet = record { still = λ s e t. ap (word_in slot) e; stopped = λ s u t. absurd (cc) }
 
   -- from the ticks of a run to the run, and back
-  during-keeps : {C : Moment → Type 0} {low high : ℕ} {n : ℕ} {s : Moment} → Ends rom (During (TickKeeps rom slot) low high) (λ s'. s'.hart.pc ≡ high) C n s
+  pub during-keeps : {C : Moment → Type 0} {low high : ℕ} {n : ℕ} {s : Moment} → Ends rom (During (TickKeeps rom slot) low high) (λ s'. s'.hart.pc ≡ high) C n s
       → KeepsWord rom low high slot s
   during-keeps (Arrived g) t inside untrapped = let b = (inside 0 (omega arith)).below in absurd (omega arith)
   during-keeps (Stopped i u c) t inside untrapped = let v = untrapped 0 (omega arith) in absurd (cc)

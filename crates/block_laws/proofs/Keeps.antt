@@ -1,6 +1,6 @@
 -- A word that a run keeps.
 use Rattle.std.proofs.Common.{◌≡◌, ℕ, zero, suc, ◌+◌, ◌<◌, ◌≤◌, ◌^◌, ◌%◌, List, length, false, refl, ap, ◌∙◌, arith}
-use Rattle.std.proofs.Common.{All, subst, sym}
+use Rattle.std.proofs.Common.{subst, sym}
 use Rattle.rv_machine.specs.Hart.{AreBytes}
 use Rattle.rv_machine.specs.Memory.{stored}
 use Rattle.block_laws.specs.Block.{IsSlot, KeepsWord}
@@ -66,5 +66,4 @@ own-valid size address memory s s' valid bytes own = record {
     regs = own.fit;
     ram = subst (λ r. AreBytes size r) (sym own.ram) bytes;
   };
-  readings = subst (λ r. All (λ x. x < 2 ^ 32) r) (sym own.readings) valid.readings;
 }

@@ -4,19 +4,23 @@ pub mod Ends
 mod Example
 pub mod Forms
 pub mod Frame
+pub mod Home
 pub mod Keeps
 pub mod Line
 pub mod Loop
 pub mod Machine
 pub mod Nest
+pub mod Parts
 pub mod Place
 pub mod Placed
 pub mod Plain
 pub mod Region
 pub mod Rules
+pub mod Sequence
 pub mod Scan
 pub mod Starts
 pub mod Steps
+pub mod Stores
 pub mod Storeless
 pub mod Structure
 pub mod Ticks

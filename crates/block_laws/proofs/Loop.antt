@@ -1,19 +1,17 @@
 -- Both laws of loops.
-use Rattle.std.proofs.Common.{◌≡◌, ℕ, zero, suc, ◌+◌, ◌-◌, ◌*◌, ◌%◌, ◌^◌, ◌≤◌, pos, List, Some, refl, sym, ap, ◌∙◌, subst, inl, inr, ⊎_elim, arith, lit<}
+use Rattle.std.proofs.Common.{◌≡◌, ℕ, zero, suc, ◌+◌, ◌-◌, ◌*◌, ◌%◌, ◌^◌, ◌≤◌, List, Some, refl, sym, ap, ◌∙◌, subst, inl, inr, ⊎_elim, arith, lit<}
 use Rattle.std.proofs.Math.Nat.{mul-le-mul_left}
 use Rattle.std.proofs.lemmas.Bool.{cases_lt}
-use Rattle.std.specs.Prelude.{nat_lt}
-use Rattle.rv_isa.specs.declared.instr.Instr.TheVariants.{Bltu}
 use Rattle.rv_machine.specs.Code.{Stands}
 use Rattle.rv_machine.specs.Memory.{stored}
 use Rattle.rv_machine.specs.Tick.{fetched}
 use Rattle.block_laws.specs.Block.{IsCount, IsSlot, Keeps}
 use Rattle.block_laws.specs.During.{Allows, During, IsQuiet}
-use Rattle.block_laws.specs.Effect.{Does, Holds, Own, Pass, Passes, PassesStop, Stops, moved, reg_at}
+use Rattle.block_laws.specs.Effect.{Does, Holds, Own, Pass, Passes, PassesStop, Stops, moved}
 use Rattle.block_laws.specs.Ends.{Arrived, Ends}
 use Rattle.block_laws.specs.Moment.{IsValidMoment, Moment}
 use Rattle.block_laws.specs.Place.{IsMachine, Within, word_in}
-use Rattle.block_laws.specs.Plan.{Loop, Plan, backward, code, compared, entry, forward, full, len, other_scratch, raised, reset, scratch}
+use Rattle.block_laws.specs.Plan.{Loop, Plan, backward, code, compared, entry, forward, full, len, raised, reset, skip_below}
 use Rattle.block_laws.proofs.Counter.{compare-then, raise-then, reset-then}
 use Rattle.block_laws.proofs.Ends.{ends-map, ends-more, ends-then}
 use Rattle.block_laws.proofs.Forms.{Entered, EntryLaw, Top, TopLaw, between, block-end, branches, entered-top, jumps, plus-backward, plus-forward}
@@ -21,7 +19,7 @@ use Rattle.block_laws.proofs.Keeps.{keeps-word, own-word, word_at}
 use Rattle.block_laws.proofs.Place.{LoopStands, full-le-entry, loop-stands, widen, wider}
 use Rattle.block_laws.proofs.Plain.{line-entry}
 use Rattle.rv_machine.specs.Run.{offered}
-use Rattle.block_laws.proofs.Machine.{does-bltu}
+use Rattle.block_laws.proofs.Machine.{does-skip_below, takes}
 
 module _ (rom : List ℕ) (size : ℕ) (machine : IsMachine rom size) (Q : Moment → Type 0) (quiet : IsQuiet rom Q) (count slot : ℕ) (is_count : IsCount count) (is_slot : IsSlot slot) (allowed : Allows rom size Q slot) (body : Plan)
     (top_body : TopLaw rom size machine Q quiet body) (low address : ℕ) (above : address ≤ low) (near : low ≤ address + 1)
@@ -63,7 +61,7 @@ module _ (rom : List ℕ) (size : ℕ) (machine : IsMachine rom size) (Q : Momen
       let b = bounds in
       ends-more rom (6 + 0 * pass_cost) (omega arith)
       (compare-then rom size machine Q quiet slot is_slot allowed {n = 0} low loop_end head count (len body + 6) loop_end s is_count placed.compared_at
-      (subst (λ a. fetched rom a ≡ Some (Bltu scratch other_scratch (pos 8))) (omega arith) placed.test_at)
+      (subst (λ a. fetched rom a ≡ Some skip_below) (omega arith) placed.test_at)
       (subst (λ a. fetched rom a ≡ Some (forward (len body + 6))) (omega arith) placed.out_at)
       (omega arith) (omega (arith, b.1)) (omega arith) (omega arith) at valid
       (λ h less s' v own. absurd (omega arith))
@@ -75,7 +73,7 @@ module _ (rom : List ℕ) (size : ℕ) (machine : IsMachine rom size) (Q : Momen
       let rest = 6 + more * pass_cost in
       ends-more rom (6 + suc more * pass_cost) (omega arith)
       (compare-then rom size machine Q quiet slot is_slot allowed {n = full body + (5 + rest)} low loop_end head count (len body + 6) loop_end s is_count placed.compared_at
-      (subst (λ a. fetched rom a ≡ Some (Bltu scratch other_scratch (pos 8))) (omega arith) placed.test_at)
+      (subst (λ a. fetched rom a ≡ Some skip_below) (omega arith) placed.test_at)
       (subst (λ a. fetched rom a ≡ Some (forward (len body + 6))) (omega arith) placed.out_at)
       (omega arith) (omega (arith, b.1)) (omega arith) (omega arith) at valid
       (λ h less s1 v1 own1.
@@ -137,7 +135,7 @@ module _ (rom : List ℕ) (size : ℕ) (machine : IsMachine rom size) (Q : Momen
       (ends-map rom (λ s' i. i) (λ s' g. (g.0, g.1.0)) (λ s' c. tt) (passes keeps more (word_at slot s) (omega arith) s valid at refl)))
       (λ h. ends-more rom again (omega arith)
       (compare-then rom size machine Q quiet slot is_slot allowed {n = 0} low loop_end head count (len body + 6) loop_end s is_count placed.compared_at
-      (subst (λ a. fetched rom a ≡ Some (Bltu scratch other_scratch (pos 8))) (omega arith) placed.test_at)
+      (subst (λ a. fetched rom a ≡ Some skip_below) (omega arith) placed.test_at)
       (subst (λ a. fetched rom a ≡ Some (forward (len body + 6))) (omega arith) placed.out_at)
       (omega arith) (omega (arith, b.1)) (omega arith) (omega arith) at valid
       (λ h' less s' v own. absurd (omega arith))
@@ -183,9 +181,9 @@ module _ (rom : List ℕ) (size : ℕ) (machine : IsMachine rom size) (Q : Momen
   from-test always keeps s valid at =
       let b = bounds in
       ends-more rom (6 + full body + again) (omega arith)
-      (branches rom size machine Q quiet {n = 5 + full body + again} s (Bltu scratch other_scratch (pos 8)) (nat_lt (reg_at scratch s) (reg_at other_scratch s)) 8 body_at (address + 28)
-      (subst (λ a. fetched rom a ≡ Some (Bltu scratch other_scratch (pos 8))) (sym at) placed.test_at)
-      (does-bltu rom (offered s.readings) s.hart scratch other_scratch (pos 8)) (omega arith) (omega arith) (omega (arith, b.1)) (omega arith) (omega (arith, b.0)) (record { from = omega arith; below = omega arith }) valid
+      (branches rom size machine Q quiet {n = 5 + full body + again} s skip_below (takes skip_below s.hart) 8 body_at (address + 28)
+      (subst (λ a. fetched rom a ≡ Some skip_below) (sym at) placed.test_at)
+      (does-skip_below rom (offered s.readings) s.hart) (omega arith) (omega arith) (omega (arith, b.1)) (omega arith) (omega (arith, b.0)) (record { from = omega arith; below = omega arith }) valid
       (λ taken v. ends-more rom (5 + full body + again) (omega arith) (from-body always keeps (moved body_at s) v refl))
       (λ passed v. ends-more rom (5 + full body + again) (omega arith) (out (moved (address + 28) s) v refl)))
 

@@ -1,25 +1,29 @@
 -- The ticks of single instructions, the places of RAM, and what a tick keeps.
-use Rattle.std.proofs.Common.{◌≡◌, ℕ, ◌+◌, ◌-◌, ◌*◌, ◌%◌, ◌^◌, ◌<◌, ◌≤◌, ℤ, List, [], ◌∷◌, length, Bool, true, false, cond, not, refl, sym, ◌∙◌, arith, lit<}
+use Rattle.std.proofs.Common.{◌≡◌, ℕ, ◌+◌, ◌-◌, ◌*◌, ◌/◌, ◌%◌, ◌^◌, ◌<◌, ◌≤◌, ℤ, pos, List, length, Bool, true, false, cond, not, refl, sym, ap, ◌∙◌, arith}
 use Rattle.std.proofs.lemmas.Bool.Decides.{nat_tests}
 use Rattle.std.specs.Prelude.{◌==◌, ◌&&◌, nat_le, nat_lt}
-use Rattle.rv_isa.specs.declared.instr.Instr.TheVariants.{Addi, Bltu, Bne, Jal, Lui, Lw, Sw}
+use Rattle.rv_isa.specs.declared.instr.Instr.{Instr}
+use Rattle.rv_isa.specs.declared.instr.Instr.TheVariants.{Addi, Beq, Bge, Bgeu, Blt, Bltu, Bne, Jal, Lui, Lw}
 use Rattle.rv_machine.specs.Code.{step}
 use Rattle.rv_machine.specs.Effect.{branch, effect, reg}
 use Rattle.rv_machine.specs.Hart.{AreWords, HartState, with_reg}
 use Rattle.rv_machine.specs.Memory.{number_at, stored}
 use Rattle.rv_machine.specs.Run.{offered}
 use Rattle.rv_machine.specs.Tick.{Quiet, Ticks, done, jump, load, onward, store}
-use Rattle.rv_machine.specs.Word.{extended, plus}
-use Rattle.rv_machine.proofs.Run.{AreWords-left_by}
+use Rattle.rv_machine.specs.Word.{extended, is_less, plus}
+use Rattle.rv_machine.proofs.Run.{offered-below}
 use Rattle.rv_machine.proofs.Store.{number_at-stored, number_at-stored_before, number_at-stored_behind}
-use Rattle.rv_machine.proofs.Store as store_laws
 use Rattle.rv_machine.proofs.Valid.{valid-tick}
 use Rattle.trap_model.specs.Map.{in_base, lies_in, load_at, out_base, ram_base, store_at}
 use Rattle.trap_model.specs.declared.map.Loads.TheVariants.{Ram as FromRam, Trap as NoLoad}
-use Rattle.trap_model.specs.declared.map.Stores.TheVariants.{Ram as IntoRam, Trap as NoStore}
-use Rattle.trap_model.specs.declared.width.Width.TheVariants.{Word}
-use Rattle.block_laws.specs.Moment.{IsValidMoment, Moment, next, ticked}
+use Rattle.trap_model.specs.declared.map.Stores.TheVariants.{OutPort, Ram as IntoRam, Trap as NoStore}
+use Rattle.trap_model.specs.Width.{bytes_of}
+use Rattle.trap_model.specs.declared.width.Width.{Width}
+use Rattle.trap_model.specs.declared.width.Width.TheVariants.{Byte, Half, Word}
+use Rattle.block_laws.specs.Moment.{IsValidMoment, Moment, next}
 use Rattle.block_laws.specs.Place.{word_in}
+use Rattle.block_laws.specs.Plan.{skip_below, skip_if_set}
+use Rattle.block_laws.specs.Sequence.{load_by, store_by}
 
 -- the sum of a word and a signed immediate
 abbrev pub displaced : ℕ → ℤ → ℕ
@@ -32,6 +36,16 @@ computed m rd x = onward m (with_reg rd x m.regs) m.ram Quiet
 -- a jump where the branch is taken, else on to the next word
 abbrev pub branch_tick : HartState → Bool → ℤ → Ticks
 branch_tick m taken imm = cond taken (jump m (displaced m.pc imm) m.regs) (onward m m.regs m.ram Quiet)
+
+-- the branch is taken
+abbrev pub takes : Instr → HartState → Bool
+takes (Beq rs1 rs2 imm) m = reg m rs1 == reg m rs2
+takes (Bne rs1 rs2 imm) m = not (reg m rs1 == reg m rs2)
+takes (Blt rs1 rs2 imm) m = is_less (reg m rs1) (reg m rs2)
+takes (Bge rs1 rs2 imm) m = not (is_less (reg m rs1) (reg m rs2))
+takes (Bltu rs1 rs2 imm) m = nat_lt (reg m rs1) (reg m rs2)
+takes (Bgeu rs1 rs2 imm) m = not (nat_lt (reg m rs1) (reg m rs2))
+takes _ m = false
 
 -- ---- the instructions of a block's own
 module _ (rom : List ℕ) (reading : ℕ) (m : HartState) where
@@ -56,47 +70,73 @@ module _ (rom : List ℕ) (reading : ℕ) (m : HartState) where
   unfolding effect done
   does-lw rd rs1 imm = refl
 
-  pub does-sw : (rs1 rs2 : ℕ) (imm : ℤ) → step rom reading (Sw rs1 rs2 imm) m ≡ store m 4 (reg m rs2) (store_at (length m.ram) (displaced (reg m rs1) imm) 4)
+  pub does-load : (width : Width) (rd rs1 : ℕ) (imm : ℤ) (offset : ℕ)
+      → load_at (4 * length rom) (length m.ram) (displaced (reg m rs1) imm) (bytes_of width) ≡ FromRam offset
+      → step rom reading (load_by width rd rs1 imm) m ≡ computed m rd (number_at (bytes_of width) offset m.ram)
   unfolding effect done
-  does-sw rs1 rs2 imm = refl
+  does-load Byte rd rs1 imm offset e = ap (load rom reading rd Byte false m) e
+  does-load Half rd rs1 imm offset e = ap (load rom reading rd Half false m) e
+  does-load Word rd rs1 imm offset e = ap (load rom reading rd Word true m) e
 
-  pub does-bne : (rs1 rs2 : ℕ) (imm : ℤ) → step rom reading (Bne rs1 rs2 imm) m ≡ branch_tick m (not (reg m rs1 == reg m rs2)) imm
+  pub does-store : (width : Width) (rs1 rs2 : ℕ) (imm : ℤ)
+      → step rom reading (store_by width rs1 rs2 imm) m ≡ store m (bytes_of width) (reg m rs2) (store_at (length m.ram) (displaced (reg m rs1) imm) (bytes_of width))
+  unfolding effect done
+  does-store Byte rs1 rs2 imm = refl
+  does-store Half rs1 rs2 imm = refl
+  does-store Word rs1 rs2 imm = refl
+
+  pub does-skip_below : step rom reading skip_below m ≡ branch_tick m (takes skip_below m) (pos 8)
   unfolding effect
-  does-bne rs1 rs2 imm = done-branch (not (reg m rs1 == reg m rs2)) imm
+  does-skip_below = done-branch (takes skip_below m) (pos 8)
 
-  pub does-bltu : (rs1 rs2 : ℕ) (imm : ℤ) → step rom reading (Bltu rs1 rs2 imm) m ≡ branch_tick m (nat_lt (reg m rs1) (reg m rs2)) imm
+  pub does-skip_if_set : (test offset : ℕ) → step rom reading (skip_if_set test offset) m ≡ branch_tick m (takes (skip_if_set test offset) m) (pos offset)
   unfolding effect
-  does-bltu rs1 rs2 imm = done-branch (nat_lt (reg m rs1) (reg m rs2)) imm
+  does-skip_if_set test offset = done-branch (takes (skip_if_set test offset) m) (pos offset)
 
--- ---- where a word of RAM lies
-pub store_at-ram : (size offset : ℕ) → offset < size → size ≤ 2 ^ 20 → offset % 4 ≡ 0 → store_at size (ram_base + offset) 4 ≡ IntoRam offset
-store_at-ram size offset below limit h = store_laws.store_at-ram size offset below limit h
+-- ---- where a place of RAM lies
+fits : (width : Width) (offset : ℕ) → offset % bytes_of width ≡ 0 → ((ram_base + offset) % bytes_of width == 0) ≡ true
+fits Byte offset h = grind (arith, nat_tests)
+fits Half offset h = grind (arith, nat_tests)
+fits Word offset h = grind (arith, nat_tests)
 
-pub load_at-ram : (rom_size size offset : ℕ) → rom_size ≤ 2 ^ 20 → offset < size → size ≤ 2 ^ 20 → offset % 4 ≡ 0 → load_at rom_size size (ram_base + offset) 4 ≡ FromRam offset
-unfolding load_at lies_in
-load_at-ram rom_size size offset small below limit h =
-    let no_rom : (nat_le 0 (ram_base + offset) && nat_lt (ram_base + offset - 0) rom_size) ≡ false = grind (arith, nat_tests) in
-    let within : (nat_le ram_base (ram_base + offset) && nat_lt (ram_base + offset - ram_base) size) ≡ true = grind (arith, nat_tests) in
-    let test : ((ram_base + offset) % 4 == 0) ≡ true = grind (arith, nat_tests) in
-    let place : ram_base + offset - ram_base ≡ offset = omega arith in
-    rw (test, no_rom, within, place) refl
+module _ (width : Width) (size offset : ℕ) where
+  in-ram : offset < size → (nat_le ram_base (ram_base + offset) && nat_lt (ram_base + offset - ram_base) size) ≡ true
+  in-ram below = grind (arith, nat_tests)
 
--- an address past RAM and below the ports reads and takes nothing
-pub store_at-past : (size offset : ℕ) → size ≤ offset → offset < 2 ^ 20 → store_at size (ram_base + offset) 4 ≡ NoStore
-unfolding store_at lies_in
-store_at-past size offset past limit =
-    let outside : (nat_le ram_base (ram_base + offset) && nat_lt (ram_base + offset - ram_base) size) ≡ false = grind (arith, nat_tests) in
-    let no_port : (nat_le out_base (ram_base + offset) && nat_lt (ram_base + offset - out_base) 1024) ≡ false = grind (arith, nat_tests) in
-    rw (outside, no_port) (same ((ram_base + offset) % 4 == 0))
-  where
-    same : (b : Bool) → cond b NoStore NoStore ≡ NoStore
-    same true = refl
-    same false = refl
+  past-ram : size ≤ offset → (nat_le ram_base (ram_base + offset) && nat_lt (ram_base + offset - ram_base) size) ≡ false
+  past-ram past = grind (arith, nat_tests)
+
+  back : ram_base + offset - ram_base ≡ offset
+  back = omega arith
+
+  pub store_at-ram : offset < size → offset % bytes_of width ≡ 0 → store_at size (ram_base + offset) (bytes_of width) ≡ IntoRam offset
+  unfolding store_at lies_in
+  store_at-ram below h =
+      let test = fits width offset h in let within = in-ram below in rw (test, within, back) refl
+
+  pub load_at-ram : (rom_size : ℕ) → rom_size ≤ 2 ^ 20 → offset < size → offset % bytes_of width ≡ 0 → load_at rom_size size (ram_base + offset) (bytes_of width) ≡ FromRam offset
+  unfolding load_at lies_in
+  load_at-ram rom_size small below h =
+      let no_rom : (nat_le 0 (ram_base + offset) && nat_lt (ram_base + offset - 0) rom_size) ≡ false = grind (arith, nat_tests) in
+      let test = fits width offset h in let within = in-ram below in rw (test, no_rom, within, back) refl
+
+  -- an address past RAM and below the ports reads and takes nothing
+  pub store_at-past : size ≤ offset → offset < 2 ^ 20 → store_at size (ram_base + offset) (bytes_of width) ≡ NoStore
+  unfolding store_at lies_in
+  store_at-past past limit =
+      let outside = past-ram past in
+      let no_port : (nat_le out_base (ram_base + offset) && nat_lt (ram_base + offset - out_base) 1024) ≡ false = grind (arith, nat_tests) in
+      rw (outside, no_port) (none (bytes_of width == 4) ((ram_base + offset) % bytes_of width == 0))
+    where
+      none : (word aligned : Bool) → cond aligned (cond (word && false) (OutPort ((ram_base + offset - out_base) / 4)) NoStore) NoStore ≡ NoStore
+      none true true = refl
+      none false true = refl
+      none word false = refl
 
 pub load_at-past : (rom_size size offset : ℕ) → rom_size ≤ 2 ^ 20 → size ≤ offset → offset < 2 ^ 20 → load_at rom_size size (ram_base + offset) 4 ≡ NoLoad
 unfolding load_at lies_in
 load_at-past rom_size size offset small past limit =
-    let outside : (nat_le ram_base (ram_base + offset) && nat_lt (ram_base + offset - ram_base) size) ≡ false = grind (arith, nat_tests) in
+    let outside = past-ram Word size offset past in
     let no_rom : (nat_le 0 (ram_base + offset) && nat_lt (ram_base + offset - 0) rom_size) ≡ false = grind (arith, nat_tests) in
     let no_port : (nat_le in_base (ram_base + offset) && nat_lt (ram_base + offset - in_base) 1024) ≡ false = grind (arith, nat_tests) in
     rw (outside, no_rom, no_port) (same ((ram_base + offset) % 4 == 0))
@@ -121,13 +161,8 @@ module _ (slot x : ℕ) (ram : List ℕ) (inside : slot + 4 ≤ length ram) wher
   word_in-behind other h = sym (word-is other (stored 4 slot x ram)) ∙ number_at-stored_behind 4 slot x ram inside 4 other h ∙ word-is other ram
 
 -- ---- a tick keeps a moment valid
-offered-below : (readings : List ℕ) → AreWords readings → offered readings < 2 ^ 32
-offered-below [] h = lit< tt
-offered-below (r ∷ rs) h = h 0 0 (omega arith)
-
 pub valid-next : (size : ℕ) → size % 4 ≡ 0 → (rom : List ℕ) → AreWords rom → (s : Moment) → IsValidMoment size s → IsValidMoment size (next rom s)
 unfolding next
 valid-next size multiple rom words s v = record {
-  hart = valid-tick size s.hart v.hart rom (offered s.readings) words (offered-below s.readings v.readings) multiple;
-  readings = AreWords-left_by (ticked rom s).event s.readings v.readings;
+  hart = valid-tick size s.hart v.hart rom (offered s.readings) words (offered-below s.readings) multiple;
 }

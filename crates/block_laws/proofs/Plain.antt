@@ -1,10 +1,8 @@
 -- Both laws of lines, sequences and choices.
-use Rattle.std.proofs.Common.{◌≡◌, ◌≢◌, ℕ, suc, ◌+◌, ◌*◌, ◌%◌, ◌^◌, ◌≤◌, max, pos, List, [], ◌∷◌, length, Some, not, refl, sym, ap, ◌∙◌, subst, inl, inr, ⊎_elim, arith}
+use Rattle.std.proofs.Common.{◌≡◌, ◌≢◌, ℕ, suc, ◌+◌, ◌*◌, ◌%◌, ◌^◌, ◌≤◌, max, pos, List, [], ◌∷◌, length, Some, refl, sym, ap, ◌∙◌, subst, inl, inr, ⊎_elim, arith}
 use Rattle.std.proofs.lemmas.Bool.{cases_lt}
 use Rattle.std.proofs.lemmas.Bool.Decides.{nat_tests}
-use Rattle.std.specs.Prelude.{◌==◌}
 use Rattle.rv_isa.specs.declared.instr.Instr.{Instr}
-use Rattle.rv_isa.specs.declared.instr.Instr.TheVariants.{Bne}
 use Rattle.rv_machine.specs.Code.{Stands}
 use Rattle.rv_machine.specs.Tick.{fetched}
 use Rattle.block_laws.specs.During.{During, IsQuiet, Spared}
@@ -12,14 +10,14 @@ use Rattle.block_laws.specs.Effect.{moved, reg_at}
 use Rattle.block_laws.specs.Ends.{Arrived, Ends}
 use Rattle.block_laws.specs.Moment.{IsValidMoment, Moment}
 use Rattle.block_laws.specs.Place.{IsMachine, Within}
-use Rattle.block_laws.specs.Plan.{If, IsLine, Line, Plan, Seq, code, entry, forward, full, len}
+use Rattle.block_laws.specs.Plan.{If, IsLine, Line, Plan, Seq, code, entry, forward, full, len, skip_if_set}
 use Rattle.block_laws.proofs.Ends.{ends-both, ends-map, ends-more, ends-then}
 use Rattle.block_laws.proofs.Forms.{Entered, EntryLaw, Top, TopLaw, between, block-end, branches, ends-valid, entered-top, jumps, plus-forward}
 use Rattle.block_laws.proofs.Line.{line-ends}
 use Rattle.block_laws.proofs.Place.{IfStands, full-le-entry, if-stands, stands-block, widen}
 use Rattle.block_laws.proofs.Steps.{fetched-place}
 use Rattle.rv_machine.specs.Run.{offered}
-use Rattle.block_laws.proofs.Machine.{does-bne}
+use Rattle.block_laws.proofs.Machine.{does-skip_if_set, takes}
 
 module _ (rom : List ℕ) (size : ℕ) (machine : IsMachine rom size) (Q : Moment → Type 0) (quiet : IsQuiet rom Q) where
   -- ---- lines
@@ -115,8 +113,8 @@ module _ (rom : List ℕ) (size : ℕ) (machine : IsMachine rom size) (Q : Momen
     if-top top_then top_else s valid at =
         let x0 : reg_at 0 s ≡ 0 = valid.hart.regs.zero_reg in
         ends-more rom (3 + max (full then_part) (full else_part)) (omega arith)
-        (branches rom size machine Q quiet {n = 2 + max (full then_part) (full else_part)} s (Bne test 0 (pos 8)) (not (reg_at test s == reg_at 0 s)) 8 (address + 8) (address + 4)
-        (subst (λ a. fetched rom a ≡ Some (Bne test 0 (pos 8))) (sym at) placed.test_at) (does-bne rom (offered s.readings) s.hart test 0 (pos 8)) (omega arith) (omega arith) (omega (arith, bounds)) (omega arith) (omega (arith, bounds))
+        (branches rom size machine Q quiet {n = 2 + max (full then_part) (full else_part)} s (skip_if_set test 8) (takes (skip_if_set test 8) s.hart) 8 (address + 8) (address + 4)
+        (subst (λ a. fetched rom a ≡ Some (skip_if_set test 8)) (sym at) placed.test_at) (does-skip_if_set rom (offered s.readings) s.hart test 8) (omega arith) (omega arith) (omega (arith, bounds)) (omega arith) (omega (arith, bounds))
         (record { from = omega arith; below = omega arith }) valid
         (λ taken v.
         let other : reg_at test s ≢ 0 = grind (arith, nat_tests) in

@@ -12,18 +12,19 @@ use Rattle.block_laws.specs.Region.{LeavesOutside, LinesStoreOnly, StoresOnly}
 use Rattle.block_laws.proofs.Ends.{ends-map}
 use Rattle.block_laws.proofs.Structure.{law-of-frame}
 
--- a byte outside the stored word is as it was
-byte-outside : (slot x o : ℕ) (ram : List ℕ) → slot + 4 ≤ length ram → (slot ≤ o → o < slot + 4 → ⊥) → slice_index (stored 4 slot x ram) o ≡ slice_index ram o
-byte-outside slot x o ram inside apart =
+-- a byte outside the stored ones is as it was
+pub byte-outside : (width slot x o : ℕ) (ram : List ℕ) → slot + width ≤ length ram → (slot ≤ o → o < slot + width → ⊥) → slice_index (stored width slot x ram) o ≡ slice_index ram o
+byte-outside width slot x o ram inside apart =
     ⊎_elim
-    (λ h. sym (get_or-take slot (stored 4 slot x ram) o 0 h) ∙ ap (λ l. slice_index l o) (take-stored 4 slot x ram inside slot (omega arith)) ∙ get_or-take slot ram o 0 h)
+    (λ h. sym (get_or-take slot (stored width slot x ram) o 0 h) ∙ ap (λ l. slice_index l o) (take-stored width slot x ram inside slot (omega arith)) ∙ get_or-take slot ram o 0 h)
     (λ h. ⊎_elim
     (λ k. absurd (apart h k))
     (λ k.
-    let at : o ≡ slot + 4 + (o - (slot + 4)) = omega arith in
-    ap (slice_index (stored 4 slot x ram)) at ∙ sym (get_or-drop (slot + 4) (stored 4 slot x ram) (o - (slot + 4)) 0)
-    ∙ ap (λ l. slice_index l (o - (slot + 4))) (drop-stored 4 slot x ram inside (slot + 4) (omega arith)) ∙ get_or-drop (slot + 4) ram (o - (slot + 4)) 0 ∙ ap (slice_index ram) (sym at))
-    (cases_lt o (slot + 4)))
+    let at : o ≡ slot + width + (o - (slot + width)) = omega arith in
+    ap (slice_index (stored width slot x ram)) at ∙ sym (get_or-drop (slot + width) (stored width slot x ram) (o - (slot + width)) 0)
+    ∙ ap (λ l. slice_index l (o - (slot + width))) (drop-stored width slot x ram inside (slot + width) (omega arith))
+    ∙ get_or-drop (slot + width) ram (o - (slot + width)) 0 ∙ ap (slice_index ram) (sym at))
+    (cases_lt o (slot + width)))
     (cases_lt o slot)
 
 module _ (rom : List ℕ) (size : ℕ) (machine : IsMachine rom size) (Region : ℕ → Type 0) where
@@ -34,7 +35,7 @@ module _ (rom : List ℕ) (size : ℕ) (machine : IsMachine rom size) (Region : 
   own-slot slot is_slot within s x h valid e t o out =
       let a = is_slot.aligned in let m = machine.ram_aligned in let count = valid.hart.ram.count in
       let inside : slot + 4 ≤ length s.hart.ram = omega arith in
-      ap (λ l. slice_index l o) e ∙ byte-outside slot x o s.hart.ram inside (λ f b. out (within o f b))
+      ap (λ l. slice_index l o) e ∙ byte-outside 4 slot x o s.hart.ram inside (λ f b. out (within o f b))
 
   lines-spared : (tree : Plan) → IsBlock tree → LinesStoreOnly Region tree → Spared rom size (LeavesOutside rom Region) tree
   lines-spared (Line instrs) b p = λ address s stands valid at. ends-map rom (λ s i. i.1) (λ s' g. g) (λ s' c. c) (p rom size address s machine stands valid at)

@@ -1,24 +1,9 @@
--- Rules for what blocks do: a line in two parts, and invariants of loops and scans.
-use Rattle.std.proofs.Common.{◌≡◌, ◌≢◌, ℕ, zero, suc, ◌+◌, ◌*◌, List, [], ◌∷◌, ◌++◌, length, refl, subst, inl, inr, ◌⊎◌, arith}
-use Rattle.rv_isa.specs.declared.instr.Instr.{Instr}
+-- Invariants of loops and scans.
+use Rattle.std.proofs.Common.{◌≡◌, ◌≢◌, ℕ, zero, suc, ◌+◌, subst, inl, inr, ◌⊎◌, arith}
 use Rattle.rv_machine.specs.Memory.{stored}
-use Rattle.block_laws.specs.Effect.{LineDoes, Own, Passes, Searches, moment_done, moved, reg_at}
+use Rattle.block_laws.specs.Effect.{Own, Passes, Searches, moved, reg_at}
 use Rattle.block_laws.specs.Moment.{Moment}
 use Rattle.block_laws.specs.Place.{word_in}
-
-module _ (rom : List ℕ) where
-  -- what an appended line does is what its first part does and then its second
-  pub line-append : (a b : List Instr) (address : ℕ) (s s' : Moment) → LineDoes rom address (a ++ b) s s'
-      → (mid : Moment) × LineDoes rom address a s mid × LineDoes rom (address + 4 * length a) b mid s'
-  line-append [] b address s s' d = let e : address ≡ address + 4 * 0 = omega arith in (s, refl, subst (λ n. LineDoes rom n b s s') e d)
-  line-append (i ∷ is) b address s s' (inl d) =
-      let r = line-append is b (address + 4) (moment_done rom i s) s' d.2 in
-      let e : address + 4 + 4 * length is ≡ address + 4 * suc (length is) = omega arith in
-      (r.0, inl (d.0, d.1, r.1), subst (λ n. LineDoes rom n b r.0 s') e r.2)
-  line-append (i ∷ is) b address s s' (inr d) =
-      let r = line-append is b (address + 4) s s' d.1 in
-      let e : address + 4 + 4 * length is ≡ address + 4 * suc (length is) = omega arith in
-      (r.0, inr (d.0, r.1), subst (λ n. LineDoes rom n b r.0 s') e r.2)
 
 -- what holds at the counter c, whatever a loop's own code does, and is carried by the body from each counter to the next, holds behind the loop at the count
 module _ (P : ℕ → Moment → Type 0) (head slot : ℕ)

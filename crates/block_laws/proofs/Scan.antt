@@ -1,10 +1,8 @@
 -- Both laws of scans.
-use Rattle.std.proofs.Common.{◌≡◌, ◌≢◌, ℕ, zero, suc, ◌+◌, ◌-◌, ◌*◌, ◌%◌, ◌^◌, ◌<◌, ◌≤◌, max, pos, List, Some, not, refl, sym, ap, ◌∙◌, subst, inl, inr, ⊎_elim, arith, lit<}
+use Rattle.std.proofs.Common.{◌≡◌, ◌≢◌, ℕ, zero, suc, ◌+◌, ◌-◌, ◌*◌, ◌%◌, ◌^◌, ◌<◌, ◌≤◌, max, pos, List, Some, refl, sym, ap, ◌∙◌, subst, inl, inr, ⊎_elim, arith, lit<}
 use Rattle.std.proofs.Math.Nat.{mul-le-mul_left}
 use Rattle.std.proofs.lemmas.Bool.{cases_lt}
 use Rattle.std.proofs.lemmas.Bool.Decides.{nat_tests}
-use Rattle.std.specs.Prelude.{◌==◌, nat_lt}
-use Rattle.rv_isa.specs.declared.instr.Instr.TheVariants.{Bltu, Bne}
 use Rattle.rv_machine.specs.Code.{Stands}
 use Rattle.rv_machine.specs.Memory.{stored}
 use Rattle.rv_machine.specs.Tick.{fetched}
@@ -14,7 +12,7 @@ use Rattle.block_laws.specs.Effect.{Does, Holds, Own, SearchStops, Searches, Sto
 use Rattle.block_laws.specs.Ends.{Arrived, Ends}
 use Rattle.block_laws.specs.Moment.{IsValidMoment, Moment}
 use Rattle.block_laws.specs.Place.{IsMachine, Within, word_in}
-use Rattle.block_laws.specs.Plan.{Plan, Scan, backward, code, compared, entry, forward, full, len, other_scratch, raised, reset, scratch}
+use Rattle.block_laws.specs.Plan.{Plan, Scan, backward, code, compared, entry, forward, full, len, raised, reset, skip_below, skip_if_set}
 use Rattle.block_laws.proofs.Counter.{compare-then, raise-then, reset-then}
 use Rattle.block_laws.proofs.Ends.{ends-map, ends-more, ends-then}
 use Rattle.block_laws.proofs.Forms.{Entered, EntryLaw, Top, TopLaw, between, block-end, branches, entered-top, jumps, plus-backward, plus-forward}
@@ -22,7 +20,7 @@ use Rattle.block_laws.proofs.Keeps.{keeps-word, own-word, word_at}
 use Rattle.block_laws.proofs.Place.{ScanStands, full-le-entry, scan-stands, widen, wider}
 use Rattle.block_laws.proofs.Plain.{line-entry}
 use Rattle.rv_machine.specs.Run.{offered}
-use Rattle.block_laws.proofs.Machine.{does-bltu, does-bne}
+use Rattle.block_laws.proofs.Machine.{does-skip_below, does-skip_if_set, takes}
 
 module _ (rom : List ℕ) (size : ℕ) (machine : IsMachine rom size) (Q : Moment → Type 0) (quiet : IsQuiet rom Q) (count slot : ℕ) (is_count : IsCount count) (is_slot : IsSlot slot) (allowed : Allows rom size Q slot)
     (guard : Plan) (test : ℕ) (found none : Plan)
@@ -100,8 +98,8 @@ module _ (rom : List ℕ) (size : ℕ) (machine : IsMachine rom size) (Q : Momen
   judge s valid at is_set is_clear =
       let b = bounds in
       let x0 : reg_at 0 s ≡ 0 = valid.hart.regs.zero_reg in
-      branches rom size machine Q quiet s (Bne test 0 (pos 24)) (not (reg_at test s == reg_at 0 s)) 24 found_at tail
-      (subst (λ a. fetched rom a ≡ Some (Bne test 0 (pos 24))) (sym at) placed.judged_at) (does-bne rom (offered s.readings) s.hart test 0 (pos 24)) (omega arith) (omega arith) (omega (arith, b.1)) (omega arith) (omega (arith, b.0))
+      branches rom size machine Q quiet s (skip_if_set test 24) (takes (skip_if_set test 24) s.hart) 24 found_at tail
+      (subst (λ a. fetched rom a ≡ Some (skip_if_set test 24)) (sym at) placed.judged_at) (does-skip_if_set rom (offered s.readings) s.hart test 24) (omega arith) (omega arith) (omega (arith, b.1)) (omega arith) (omega (arith, b.0))
       (record { from = omega arith; below = omega arith }) valid
       (λ taken v. let other : reg_at test s ≢ 0 = grind (arith, nat_tests) in is_set other v)
       (λ passed v. let zeroed : reg_at test s ≡ 0 = grind (arith, nat_tests) in is_clear zeroed v)
@@ -112,7 +110,7 @@ module _ (rom : List ℕ) (size : ℕ) (machine : IsMachine rom size) (Q : Momen
       let b = bounds in
       ends-more rom (cost 0) (omega arith)
       (compare-then rom size machine Q quiet slot is_slot allowed {n = full none} low scan_end head count (len guard + len found + 8) none_at s is_count placed.compared_at
-      (subst (λ a. fetched rom a ≡ Some (Bltu scratch other_scratch (pos 8))) (omega arith) placed.test_at)
+      (subst (λ a. fetched rom a ≡ Some skip_below) (omega arith) placed.test_at)
       (subst (λ a. fetched rom a ≡ Some (forward (len guard + len found + 8))) (omega arith) placed.out_at)
       (omega arith) (omega (arith, b.1)) (omega arith) (omega arith) at valid
       (λ h less s' v own. absurd (omega arith))
@@ -125,7 +123,7 @@ module _ (rom : List ℕ) (size : ℕ) (machine : IsMachine rom size) (Q : Momen
       let few = is_count.few in
       ends-more rom (cost (suc more)) (omega arith)
       (compare-then rom size machine Q quiet slot is_slot allowed {n = full guard + (1 + max (full found + 1) (5 + cost more))} low scan_end head count (len guard + len found + 8) none_at s is_count placed.compared_at
-      (subst (λ a. fetched rom a ≡ Some (Bltu scratch other_scratch (pos 8))) (omega arith) placed.test_at)
+      (subst (λ a. fetched rom a ≡ Some skip_below) (omega arith) placed.test_at)
       (subst (λ a. fetched rom a ≡ Some (forward (len guard + len found + 8))) (omega arith) placed.out_at)
       (omega arith) (omega (arith, b.1)) (omega arith) (omega arith) at valid
       (λ h less s1 v1 own1.
@@ -208,7 +206,7 @@ module _ (rom : List ℕ) (size : ℕ) (machine : IsMachine rom size) (Q : Momen
       (ends-map rom (λ s' i. i) (λ s' g. (g.0, g.1.0)) (λ s' c. tt) (searches keeps more (word_at slot s) (omega arith) s valid at refl)))
       (λ h. ends-more rom again (omega arith)
       (compare-then rom size machine Q quiet slot is_slot allowed {n = full none} low scan_end head count (len guard + len found + 8) none_at s is_count placed.compared_at
-      (subst (λ a. fetched rom a ≡ Some (Bltu scratch other_scratch (pos 8))) (omega arith) placed.test_at)
+      (subst (λ a. fetched rom a ≡ Some skip_below) (omega arith) placed.test_at)
       (subst (λ a. fetched rom a ≡ Some (forward (len guard + len found + 8))) (omega arith) placed.out_at)
       (omega arith) (omega (arith, b.1)) (omega arith) (omega arith) at valid
       (λ h' less s' v own. absurd (omega arith))
@@ -259,9 +257,9 @@ module _ (rom : List ℕ) (size : ℕ) (machine : IsMachine rom size) (Q : Momen
   from-test always keeps s valid at =
       let b = bounds in
       ends-more rom (7 + full guard + again) (omega arith)
-      (branches rom size machine Q quiet {n = 6 + full guard + again} s (Bltu scratch other_scratch (pos 8)) (nat_lt (reg_at scratch s) (reg_at other_scratch s)) 8 guard_at (address + 28)
-      (subst (λ a. fetched rom a ≡ Some (Bltu scratch other_scratch (pos 8))) (sym at) placed.test_at)
-      (does-bltu rom (offered s.readings) s.hart scratch other_scratch (pos 8)) (omega arith) (omega arith) (omega (arith, b.1)) (omega arith) (omega (arith, b.0)) (record { from = omega arith; below = omega arith }) valid
+      (branches rom size machine Q quiet {n = 6 + full guard + again} s skip_below (takes skip_below s.hart) 8 guard_at (address + 28)
+      (subst (λ a. fetched rom a ≡ Some skip_below) (sym at) placed.test_at)
+      (does-skip_below rom (offered s.readings) s.hart) (omega arith) (omega arith) (omega (arith, b.1)) (omega arith) (omega (arith, b.0)) (record { from = omega arith; below = omega arith }) valid
       (λ taken v. ends-more rom (6 + full guard + again) (omega arith) (from-guard always keeps (moved guard_at s) v refl))
       (λ passed v. ends-more rom (6 + full guard + again) (omega arith) (out (moved (address + 28) s) v refl)))
 

@@ -1,8 +1,8 @@
 -- The first tick of a block.
-use Rattle.std.proofs.Common.{◌≡◌, ℕ, suc, ◌+◌, ◌*◌, ◌%◌, ◌^◌, ◌<◌, ◌≤◌, List, [], ◌∷◌, length, Some, pos, false, sym, ◌∙◌, subst, ⊎_elim, arith}
+use Rattle.std.proofs.Common.{◌≡◌, ℕ, suc, ◌+◌, ◌*◌, ◌%◌, ◌^◌, ◌<◌, ◌≤◌, List, [], ◌∷◌, length, Some, false, sym, ◌∙◌, subst, ⊎_elim, arith}
 use Rattle.std.proofs.lemmas.Bool.{cases_lt}
 use Rattle.rv_isa.specs.declared.instr.Instr.{Instr}
-use Rattle.rv_isa.specs.declared.instr.Instr.TheVariants.{Bne, Lui}
+use Rattle.rv_isa.specs.declared.instr.Instr.TheVariants.{Lui}
 use Rattle.rv_machine.specs.Code.{Stands}
 use Rattle.rv_machine.specs.Run.{offered}
 use Rattle.rv_machine.specs.Tick.{fetched}
@@ -11,7 +11,8 @@ use Rattle.block_laws.specs.Block.{IsBlock}
 use Rattle.block_laws.specs.Law.{LawOfStart}
 use Rattle.block_laws.specs.Moment.{Moment, next, traps}
 use Rattle.block_laws.specs.Place.{IsMachine}
-use Rattle.block_laws.specs.Plan.{If, Line, Loop, Plan, Scan, Seq, StaysIn, code, high_part, len, scratch}
+use Rattle.block_laws.specs.Plan.{If, Line, Loop, Plan, Scan, Seq, StaysIn, code, len, skip_if_set}
+use Rattle.block_laws.specs.Sequence.{high_part, scratch}
 use Rattle.block_laws.proofs.Forms.{block-end}
 use Rattle.block_laws.proofs.Line.{on-step}
 use Rattle.block_laws.proofs.Place.{stands-block}
@@ -41,7 +42,7 @@ module _ (rom : List ℕ) (size : ℕ) (machine : IsMachine rom size) where
       (cases_lt 0 (len first))
   starts (If test then_part else_part) b address s stands at some t =
       let e = block-end rom size machine (λ s. Unit {0}) (record { still = λ s e. tt; stopped = λ s e. tt }) (If test then_part else_part) address stands some in
-      let h = first-tick s (Bne test 0 (pos 8)) 3 (subst (λ a. fetched rom a ≡ Some (Bne test 0 (pos 8))) (sym at) stands.0) (omega arith, omega arith) (omega arith) (omega (arith, e)) (omega (arith, e)) t in omega arith
+      let h = first-tick s (skip_if_set test 8) 3 (subst (λ a. fetched rom a ≡ Some (skip_if_set test 8)) (sym at) stands.0) (omega arith, omega arith) (omega arith) (omega (arith, e)) (omega (arith, e)) t in omega arith
   starts (Loop count slot body) b address s stands at some t =
       let e = block-end rom size machine (λ s. Unit {0}) (record { still = λ s e. tt; stopped = λ s e. tt }) (Loop count slot body) address stands some in
       let h = first-tick s (enters slot) 1 (subst (λ a. fetched rom a ≡ Some (enters slot)) (sym at) stands.0) tt (omega arith) (omega (arith, e)) (omega (arith, e)) t in omega arith

@@ -2,12 +2,13 @@
 use Rattle.std.specs.Prelude.{◌≡◌, ◌≢◌, ℕ, zero, suc, ◌+◌, ◌*◌, ◌^◌, ◌<◌, ◌⊎◌, List, [], ◌∷◌, slice_index, Bool, true, false}
 use Rattle.rv_isa.specs.declared.instr.Instr.{Instr}
 use Rattle.rv_machine.specs.Code.{step}
-use Rattle.rv_machine.specs.Hart.{AreRegs}
+use Rattle.rv_machine.specs.Hart.{AreRegs, with_reg}
 use Rattle.rv_machine.specs.Memory.{stored}
 use Rattle.rv_machine.specs.Run.{offered}
 use Rattle.block_laws.specs.Moment.{Moment, is_trap, moment_by}
 use Rattle.block_laws.specs.Place.{word_in}
-use Rattle.block_laws.specs.Plan.{If, Line, Loop, Plan, Scan, Seq, len, other_scratch, scratch}
+use Rattle.block_laws.specs.Plan.{If, Line, Loop, Plan, Scan, Seq, len}
+use Rattle.block_laws.specs.Sequence.{other_scratch, scratch}
 
 -- the moment after an instruction
 abbrev pub moment_done : List ℕ → Instr → Moment → Moment
@@ -75,6 +76,14 @@ PassesStop Body BodyStops head body slot (suc more) c s s' =
 -- the same moment at another address
 abbrev pub moved : ℕ → Moment → Moment
 moved address s = record { hart = record { pc = address; regs = s.hart.regs; ram = s.hart.ram }; readings = s.readings; log = s.log }
+
+-- the moment at another address, with a register anew
+abbrev pub written : (address register x : ℕ) → Moment → Moment
+written address register x s = record { hart = record { pc = address; regs = with_reg register x s.hart.regs; ram = s.hart.ram }; readings = s.readings; log = s.log }
+
+-- the moment at another address, with so many bytes of RAM anew
+abbrev pub saved : (address width offset x : ℕ) → Moment → Moment
+saved address width offset x s = record { hart = record { pc = address; regs = s.hart.regs; ram = stored width offset x s.hart.ram }; readings = s.readings; log = s.log }
 
 -- the value of a register
 abbrev pub reg_at : ℕ → Moment → ℕ

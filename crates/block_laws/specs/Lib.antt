@@ -2,10 +2,14 @@ pub mod Block
 pub mod During
 pub mod Effect
 pub mod Ends
+pub mod Home
 pub mod Law
 pub mod Moment
+pub mod Parts
 pub mod Place
 pub mod Placed
 pub mod Plan
 pub mod Region
+pub mod Sequence
+pub mod SequenceLaw
 pub mod Ticks

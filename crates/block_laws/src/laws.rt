@@ -1,9 +1,12 @@
 //! The laws of runs that end, and of blocks.
 
+ghost use Rattle.block_laws.specs.Home.{ComesHome, GoesRound, WrittenIsClosed};
 ghost use Rattle.block_laws.specs.Law.{LawOfEffect, LawOfEntry, LawOfNest, LawOfNoReturn, LawOfStart, LawOfTop, OfBlocks, SparedIsKept, StorelessKeeps};
 ghost use Rattle.block_laws.specs.Moment.{MomentsAreRuns};
+ghost use Rattle.block_laws.specs.Parts.{LinesAppend, LinesKeepValid, LinesLeadOneWay, PartsAreDone, PartsStop};
 ghost use Rattle.block_laws.specs.Placed.{WrittenCodeStands};
-ghost use Rattle.block_laws.specs.Region.{RegionIsKept};
+ghost use Rattle.block_laws.specs.Region.{LinesStoreAsDone, PartsStoreOnly, RegionIsKept, RegionKeepsSlots, StorelessStoreNothing};
+ghost use Rattle.block_laws.specs.SequenceLaw.{FixedIsLoaded, FixedIsStored, FixedStoresOnly, ImmediateIsLoaded};
 ghost use Rattle.block_laws.specs.Ticks.{LawOfTicks};
 
 /// The moments of a run are its harts after as many ticks, with the readings that are left and the events at
@@ -66,4 +69,61 @@ pub fn regions_are_kept()
 /// Code stands in ROM where its words were written into the image.
 pub fn written_code_stands()
     ensures { WrittenCodeStands }
+{}
+
+/// Two lines, one behind the other, are a line.
+pub fn lines_append()
+    ensures { LinesAppend }
+{}
+
+/// What a line of two parts does is what the second part does after the first, and it stops where one of them does.
+pub fn parts_are_done_in_order()
+    ensures does { PartsAreDone }
+    ensures stops { PartsStop }
+{}
+
+/// A line leads one way.
+pub fn lines_lead_one_way()
+    ensures { LinesLeadOneWay }
+{}
+
+/// Where a line leads from a valid hart, the hart is valid.
+pub fn lines_keep_harts_valid()
+    ensures { LinesKeepValid }
+{}
+
+/// The small sequences load a word, load from RAM at a fixed offset, and store there.
+pub fn sequences_are_done()
+    ensures immediate { ImmediateIsLoaded }
+    ensures load { FixedIsLoaded }
+    ensures store { FixedIsStored }
+{}
+
+/// A line stores in a region of RAM alone if it does so instruction by instruction, as they are done.
+pub fn lines_store_as_done()
+    ensures { LinesStoreAsDone }
+{}
+
+/// Where a line of two parts stores, where a store at a fixed offset does, and that a line with no store stores nowhere.
+pub fn parts_store_only()
+    ensures parts { PartsStoreOnly }
+    ensures fixed { FixedStoresOnly }
+    ensures storeless { StorelessStoreNothing }
+{}
+
+/// A block keeps the word at a slot outside the region in which alone it stores.
+pub fn regions_keep_slots()
+    ensures { RegionKeepsSlots }
+{}
+
+/// A block's words, written from address 0 with the jump to 0 behind them, make a ROM with the block at 0 and jumps to 0
+/// at every further word.
+pub fn written_blocks_are_closed()
+    ensures { WrittenIsClosed }
+{}
+
+/// A closed block comes to address 0 from every hart, and from there it goes round.
+pub fn closed_blocks_stabilize()
+    ensures comes_home { OfBlocks ComesHome }
+    ensures goes_round { OfBlocks GoesRound }
 {}

@@ -7,6 +7,8 @@ mod laws;
 pub use laws::{
     blocks_do_their_structure, blocks_end_from_anywhere, blocks_end_from_the_top,
     blocks_end_in_ticks, blocks_never_return, blocks_start_forward, bounds_keep_step,
-    moments_are_runs, regions_are_kept, spared_words_are_kept, storeless_lines_keep,
-    written_code_stands,
+    closed_blocks_stabilize, lines_append, lines_keep_harts_valid, lines_lead_one_way,
+    lines_store_as_done, moments_are_runs, parts_are_done_in_order, parts_store_only,
+    regions_are_kept, regions_keep_slots, sequences_are_done, spared_words_are_kept,
+    storeless_lines_keep, written_blocks_are_closed, written_code_stands,
 };

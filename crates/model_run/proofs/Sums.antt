@@ -16,7 +16,8 @@ use Rattle.state_space.specs.declared.shape.Shape.{Shape}
 use Rattle.state_space.specs.Locations.{is_state, is_input, shape_of, shapes_of}
 use Rattle.state_space.specs.Sizes.{IsRange, fits, padded_count, padded_own, padded_sum}
 use Rattle.state_space.proofs.Padding.{padded_count-within, sum_mapped}
-use Rattle.model_run.specs.Needs.{bytes_of, own_need, needed}
+use Rattle.model_run.specs.NeedParts.{bytes_of, own_need}
+use Rattle.model_run.specs.Needs.{needed}
 
 own_parts : (kind : Kind) (n : ℕ) → bytes_of kind * n ≡ 12 * (if is_state kind then n else 0) + 4 * (if is_input kind then n else 0)
 own_parts kinds.Controlled n = omega arith

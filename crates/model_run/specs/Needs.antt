@@ -1,11 +1,8 @@
 -- How many bytes of memory a program would need in a machine with one word for each location.
 use Rattle.std.specs.Prelude.{ℕ, ◌+◌, ◌*◌, ◌^◌, min}
-use Rattle.asm_tree.specs.declared.decl.Kind.{Kind}
-use Rattle.asm_tree.specs.declared.decl.Kind.TheVariants as kinds
 use Rattle.asm_names.specs.declared.program.Resolved.{Resolved}
-use Rattle.state_space.specs.declared.shape.Shape.{Shape}
 use Rattle.state_space.specs.Locations.{is_state, is_input, shapes_of}
-use Rattle.state_space.specs.Sizes.{padded_count, padded_sum}
+use Rattle.state_space.specs.Sizes.{padded_sum}
 
 -- three words for each location of the state, and one for each of the inputs, for each binder and for four more, where
 -- each argument has a power of two
@@ -15,14 +12,3 @@ needed program = 12 * padded_sum is_state (shapes_of program) + 4 * (padded_sum 
 -- the same as far as it is told apart
 abbrev pub word_ram_need : Resolved → ℕ
 word_ram_need program = min (needed program) (2 ^ 62)
-
--- ---- the same function by function
-abbrev pub bytes_of : Kind → ℕ
-bytes_of kinds.Controlled = 12
-bytes_of kinds.Output = 12
-bytes_of kinds.Input = 4
-bytes_of kinds.Static = 0
-
--- how much the locations of a function need
-abbrev pub own_need : Shape → ℕ
-own_need shape = bytes_of shape.kind * padded_count shape.args

@@ -4,6 +4,7 @@ ghost use Rattle.std.specs.Prelude.{◌≡◌, ◌≤◌, ◌*◌, ◌^◌, true
 ghost use Rattle.std.specs.List.{AllByRecursion};
 ghost use Rattle.state_space.specs.Locations.{range_of as range_spec, shape_of, shapes_of};
 ghost use Rattle.state_space.specs.Sizes.{IsRange, IsSized, fits, padded_count as padded_spec};
+ghost use Rattle.model_run.specs.NeedParts as parts;
 ghost use Rattle.model_run.specs.Needs as spec;
 
 use asm_names::{Domain, Fun, Resolved};
@@ -15,7 +16,7 @@ const GREATEST: u64 = 1 << 62;
 
 /// The bytes for each location of a function.
 fn bytes_of(kind: Kind) -> u64
-    ensures { result ≡ spec.bytes_of kind }
+    ensures { result ≡ parts.bytes_of kind }
 {
     match kind {
         Kind::Controlled | Kind::Output => 12,
@@ -27,7 +28,7 @@ fn bytes_of(kind: Kind) -> u64
 /// The bytes for the locations of a function.
 fn own_need(domains: &[Domain], function: &Fun) -> u64
     requires { IsSized (shape_of domains.now function.now) }
-    ensures need { result ≡ spec.own_need (shape_of domains.now function.now) }
+    ensures need { result ≡ parts.own_need (shape_of domains.now function.now) }
     ensures few { result ≤ 12 * 2 ^ 48 }
 {
     bytes_of(function.kind) * padded_numbers(domains, function.args.as_slice())

@@ -1,6 +1,6 @@
 -- What it is that an image stabilizes (after Dolev, Haviv and Sagiv, TOPLAS 31(6), 2009).
 use Rattle.std.specs.Prelude.{◌≡◌, ℕ, zero, suc, ◌≤◌, List, length}
-use Rattle.rv_machine.specs.Hart.{AreWords, HartState, IsValid}
+use Rattle.rv_machine.specs.Hart.{HartState, IsValid}
 use Rattle.rv_machine.specs.Image.{IsImage}
 use Rattle.rv_machine.specs.Run.{after, left_after}
 use Rattle.plain_program.specs.Plain.{PlainProgram, codomains}
@@ -33,4 +33,4 @@ AreRounds p built (suc n) readings m =
 -- from every hart at the head, whatever the ports read, one round follows another without end
 abbrev pub GoesOn : ℕ → PlainProgram → Compiled → Type 0
 GoesOn size p built =
-    (m : HartState) (readings : List ℕ) → IsValid size m → AreWords readings → m.pc ≡ 0 → (n : ℕ) → AreRounds p built n readings m
+    (m : HartState) (readings : List ℕ) → IsValid size m → m.pc ≡ 0 → (n : ℕ) → AreRounds p built n readings m

@@ -3,6 +3,7 @@
 ghost use Rattle.std.specs.Prelude.{◌≡◌};
 
 use crate::map::Entry;
+use rv_encode::Words;
 use rv_machine::Rom;
 use std::marker::Model;
 
@@ -25,7 +26,7 @@ pub struct Numbers {
 #[derive(Drop)]
 pub struct Built<const ROM: u32, const RAM: u32> {
     rom: Rom<ROM>,
-    written: Vec<u32>,
+    written: Words,
     map: Vec<Entry>,
     needs: Numbers,
 }
@@ -35,13 +36,13 @@ impl<const ROM: u32, const RAM: u32> Model for Built<ROM, RAM> {
 
     ghost Value = { Compiled };
 
-    ghost view = { λ b. record { rom = b.rom; written = b.written.items; map = b.map.items; needs = b.needs } };
+    ghost view = { λ b. record { rom = b.rom; written = b.written; map = b.map.items; needs = b.needs } };
 }
 
 impl<const ROM: u32, const RAM: u32> Built<ROM, RAM> {
     /// The image of these parts, which `Stabilizes` has to be proved of.
-    pub fn of(rom: Rom<ROM>, written: Vec<u32>, map: Vec<Entry>, needs: Numbers) -> Self
-        ensures { result ≡ record { rom = rom.entry; written = written.items; map = map.items; needs = needs } }
+    pub fn of(rom: Rom<ROM>, written: Words, map: Vec<Entry>, needs: Numbers) -> Self
+        ensures { result ≡ record { rom = rom.entry; written = written; map = map.items; needs = needs } }
     {
         Built {
             rom,
@@ -62,7 +63,7 @@ impl<const ROM: u32, const RAM: u32> Built<ROM, RAM> {
     pub fn written(&self) -> &[u32]
         ensures { result.now ≡ self.now.written }
     {
-        &self.written
+        self.written.list()
     }
 
     /// The entries of the state's locations, in the order of declaration.

@@ -1,18 +1,24 @@
 -- A plain program's image stabilizes.
-use Rattle.std.proofs.Common.{◌≡◌, ◌≢◌, ℕ, zero, suc, ◌+◌, ◌*◌, ◌^◌, ◌<◌, ◌≤◌, List, [], ◌∷◌, length, drop, replicate, get_or, All, ℤ, slice_set, refl, sym, ap, ◌∙◌, subst, arith, length-append, lit<, lit≤}
-use Rattle.std.proofs.lemmas.List.Elements.{All-replicate}
+use Rattle.std.proofs.Common.{◌≡◌, ℕ, ◌+◌, ◌*◌, ◌^◌, ◌≤◌, List, [], ◌∷◌, length, drop, get_or, ℤ, slice_set, refl, sym, ap, ◌∙◌, subst, arith, length-append, lit<, lit≤}
 use Rattle.rv_encode.specs.Table.{AreRows}
-use Rattle.rv_isa.specs.declared.instr.Instr.{Instr}
-use Rattle.rv_machine.specs.Hart.{HartState}
-use Rattle.rv_machine.specs.Image.{IsImage}
+use Rattle.rv_machine.specs.Code.{Stands}
+use Rattle.rv_machine.specs.Hart.{HartState, IsValid}
+use Rattle.rv_machine.specs.Image.{IsImage, jump_home}
 use Rattle.rv_machine.specs.Memory.{stored}
-use Rattle.rv_machine.specs.Run.{after, offered, ports_taken, words_sent}
-use Rattle.rv_machine.specs.Tick.{Quiet, Trapped, done}
-use Rattle.rv_machine.proofs.Anchor.{AreStraight, anchors}
-use Rattle.rv_machine.proofs.Fetch.{Stands, length-rows, stands-written}
-use Rattle.rv_machine.proofs.Run.{Goes, goes-last, tick-fetched}
+use Rattle.rv_machine.specs.Run.{after, ports_taken, words_sent}
+use Rattle.rv_machine.proofs.Fetch.{length-rows, stands-front}
 use Rattle.rv_machine.proofs.Store.{drop-stored}
-use Rattle.rv_machine.specs.Effect.{effect}
+use Rattle.block_laws.specs.Block.{IsBlock}
+use Rattle.block_laws.specs.Effect.{LineDoes, LineStops, reg_at, saved, written}
+use Rattle.block_laws.specs.Home.{GoneRound, IsClosed, started}
+use Rattle.block_laws.specs.Moment.{Moment}
+use Rattle.block_laws.specs.Place.{IsMachine}
+use Rattle.block_laws.specs.Plan.{len}
+use Rattle.block_laws.specs.Sequence.{high_part, load_immediate, scratch, store_fixed}
+use Rattle.block_laws.proofs.Counter.{reg-same}
+use Rattle.block_laws.proofs.Home.{comes-home, goes-round, written-is-closed}
+use Rattle.block_laws.proofs.Parts.{lines-keep-valid, lines-lead-one-way, parts-are-done}
+use Rattle.block_laws.proofs.Sequence.{fixed-stored, immediate-loaded}
 use Rattle.plain_program.specs.Fire.{Change}
 use Rattle.plain_program.specs.Plain.{IsInRange, IsPlain, PlainProgram, codomains, index_in}
 use Rattle.plain_program.specs.Step.{Step, Yields}
@@ -25,56 +31,46 @@ use Rattle.round_spec.specs.Needs.{AreWithinLimits, needs_of}
 use Rattle.round_spec.specs.Round.{Compiled, Round}
 use Rattle.round_spec.specs.Stabilizes.{Stabilizes}
 use Rattle.round_spec.proofs.State.{decoded-stored, index_in-below, value-index_in}
-use Rattle.rule_code.specs.Code.{closed, line_of}
+use Rattle.trap_model.specs.Map.{ram_base}
+use Rattle.trap_model.specs.declared.width.Width.TheVariants.{Word}
+use Rattle.rule_code.specs.Code.{body_of, closed, line_of}
 use Rattle.rule_code.proofs.Enough.{AreEnough, needs-enough, needs-within}
 use Rattle.rule_code.proofs.Names.{names}
-use Rattle.rule_code.proofs.Update.{update-goes}
 
-quiet-untrapped : (t : ℕ) → All (λ e. e ≢ Trapped) (replicate t Quiet)
-quiet-untrapped t = All-replicate (λ e. e ≢ Trapped) t Quiet (λ e. cc)
+-- the block of a rule goes straight on
+pub body-is-block : (domains : List Domain) (rule : PlainRule) → IsBlock (body_of domains rule)
+body-is-block domains Skip = tt
+body-is-block domains (Update place value) = (tt, (tt, (tt, (tt, tt))))
 
-ports_taken-quiet : (t : ℕ) → ports_taken (replicate t Quiet) ≡ []
-ports_taken-quiet zero = refl
-ports_taken-quiet (suc t) = ports_taken-quiet t
+pub body-short : (domains : List Domain) (rule : PlainRule) → len (body_of domains rule) ≤ 4
+body-short domains Skip = lit≤ tt
+body-short domains (Update place value) = lit≤ tt
 
-words_sent-quiet : (t : ℕ) → words_sent (replicate t Quiet) ≡ []
-words_sent-quiet zero = refl
-words_sent-quiet (suc t) = words_sent-quiet t
-
--- quiet ticks from the head to the head that make a step and keep the other bytes are a round
-pub round-goes : (p : PlainProgram) (built : Compiled) (readings : List ℕ) (m : HartState) (t : ℕ) (rest : List ℕ) (m' : HartState)
-    → Goes built.rom readings m t (replicate t Quiet) rest m' → m.pc ≡ 0 → 0 < t → m'.pc ≡ 0
-    → Step p (decoded_state built.map m.ram) (decoded_state built.map m'.ram)
-    → drop built.needs.ram m'.ram ≡ drop built.needs.ram m.ram
-    → Round p built readings m t (after built.rom t readings m)
-round-goes p built readings m t rest m' g starts lasts ends step kept = record {
-  starts = starts;
-  lasts = lasts;
-  arrives = refl;
-  ends = ap (λ n. n.pc) g.hart ∙ ends;
-  away = g.away;
-  untrapped = subst (All (λ e. e ≢ Trapped)) (sym g.seen) (quiet-untrapped t);
-  taken = ap ports_taken g.seen ∙ ports_taken-quiet t;
-  sent = ap words_sent g.seen ∙ words_sent-quiet t;
-  step = made;
-  least = record { changes = made.changes; yielded = made.yielded; fired = made.fired };
-  kept = ap (λ n. drop built.needs.ram n.ram) g.hart ∙ kept;
-}
-  where
-    made : Step p (decoded_state built.map m.ram) (decoded_state built.map (after built.rom t readings m).ram)
-    made = subst (λ (n : HartState). Step p (decoded_state built.map m.ram) (decoded_state built.map n.ram)) (sym g.hart) step
-
-module _ (size : ℕ) (p : PlainProgram) (plain : IsPlain p) (in_range : IsInRange p) (built : Compiled) (needs : built.needs ≡ needs_of p) (layout : built.map ≡ word_map (codomains p)) (least : 2 ^ 18 ≤ size) (limit : size ≤ 2 ^ 20) where
+module _ (size : ℕ) (p : PlainProgram) (plain : IsPlain p) (in_range : IsInRange p) (built : Compiled) (needs : built.needs ≡ needs_of p) (layout : built.map ≡ word_map (codomains p))
+    (least : 2 ^ 18 ≤ size) (machine : IsMachine built.rom size) where
   enough : AreEnough built.needs (length (codomains p))
   enough = subst (λ n. AreEnough n (length (codomains p))) (sym needs) (needs-enough p plain)
 
-  -- a round from the head, by the registers and RAM there
-  abbrev Rounds : HartState → Type 0
-  Rounds m = (readings : List ℕ) → (t : ℕ) × (t ≤ built.needs.round) × Round p built readings m t (after built.rom t readings m)
+  -- where the line of a rule leads: no port is used, and RAM has made a step
+  record Leads (rule : PlainRule) (readings : List ℕ) (m : HartState) : Type 0 where
+    end : Moment
+    does : LineDoes built.rom 0 (line_of (codomains p) rule) (started readings m) end
+    quiet : end.log ≡ []
+    step : Step p (decoded_state built.map m.ram) (decoded_state built.map end.hart.ram)
+    kept : drop built.needs.ram end.hart.ram ≡ drop built.needs.ram m.ram
 
-  update-rounds : (place : ℕ) (value : ℤ) → p.rule ≡ Update place value → Stands built.rom 0 (closed (line_of (codomains p) (Update place value)))
-      → (regs ram : List ℕ) → length regs ≡ 32 → length ram ≡ size → Rounds (record { pc = 0; regs = regs; ram = ram })
-  update-rounds place value rule stands regs ram count bytes readings =
+  skip-leads : p.rule ≡ Skip → (readings : List ℕ) (m : HartState) → Leads Skip readings m
+  skip-leads rule readings m = record {
+    end = started readings m;
+    does = refl;
+    quiet = refl;
+    step = record { changes = []; yielded = subst (λ r. Yields r []) (sym rule) refl; fired = refl };
+    kept = refl;
+  }
+
+  update-leads : (place : ℕ) (value : ℤ) → p.rule ≡ Update place value → Stands built.rom 0 (line_of (codomains p) (Update place value))
+      → (readings : List ℕ) (m : HartState) → IsValid size m → m.pc ≡ 0 → Leads (Update place value) readings m
+  update-leads place value rule stands readings m valid head =
       let any : Domain = record { lo = value; hi = value } in
       let domain = get_or (codomains p) place any in
       let index = index_in domain value in
@@ -84,49 +80,75 @@ module _ (size : ℕ) (p : PlainProgram) (plain : IsPlain p) (in_range : IsInRan
       let ram_needed = enough.ram in
       let small = index_in-below domain value named.holds in
       let domain_small = named.domain.size in
-      let inside : 4 * place + 4 ≤ length ram = omega arith in
-      let goes = update-goes built.rom readings regs ram place index stands count inside (omega arith) (omega arith) in
-      let stored_state = decoded-stored (4 * place) index ram inside (codomains p) 0 place any at (omega arith) small (omega arith) in
-      let fired : decoded_state built.map (stored 4 (4 * place) index ram) ≡ slice_set (decoded_state built.map ram) place value =
-      rw layout (stored_state ∙ ap (slice_set (decoded_state (word_map (codomains p)) ram) place) (value-index_in domain value named.holds)) in
+      let count = valid.ram.count in
+      let inside : 4 * place + 4 ≤ length m.ram = omega arith in
+      let s = started readings m in
+      let first = load_immediate 6 index in
+      let second = store_fixed Word 6 (4 * place) in
+      let loaded = written 8 6 index s in
+      let end = saved 16 4 (4 * place) (reg_at 6 loaded) (written 12 scratch (high_part (ram_base + 4 * place) * 2 ^ 12) loaded) in
+      let loads : LineDoes built.rom 0 first s loaded =
+      immediate-loaded built.rom size 0 6 index s (record { valid = record { hart = valid }; here = head; room = lit< tt }) (lit< tt) (omega arith) in
+      let loaded_valid = lines-keep-valid built.rom size 0 first s loaded machine (stands-front built.rom 0 first second stands) (record { hart = valid }) loads in
+      let stores : LineDoes built.rom 8 second loaded end =
+      fixed-stored built.rom size 8 Word 6 (4 * place) loaded machine (record { valid = loaded_valid; here = refl; room = lit< tt }) (omega arith)
+      (record { aligned = omega arith; low = omega arith }) (omega arith) in
+      let is_index : reg_at 6 loaded ≡ index = reg-same size 8 5 index s (record { hart = valid }) (lit< tt) in
+      let stored_state = decoded-stored (4 * place) index m.ram inside (codomains p) 0 place any at (omega arith) small (omega arith) in
+      let fired : decoded_state built.map (stored 4 (4 * place) (reg_at 6 loaded) m.ram) ≡ slice_set (decoded_state built.map m.ram) place value =
+      rw (layout, is_index) (stored_state ∙ ap (slice_set (decoded_state (word_map (codomains p)) m.ram) place) (value-index_in domain value named.holds)) in
       let change : Change = record { place = place; value = value } in
-      let step : Step p (decoded_state built.map ram) (decoded_state built.map (stored 4 (4 * place) index ram)) =
-      record { changes = change ∷ []; yielded = subst (λ r. Yields r (change ∷ [])) (sym rule) refl; fired = fired } in
-      (5, enough.round, round-goes p built readings _ 5 readings _ goes refl (lit< tt) refl step (drop-stored 4 (4 * place) index ram inside built.needs.ram (omega arith)))
+      record {
+        end = end;
+        does = (parts-are-done built.rom 0 first second s end).1 (loaded, loads, stores);
+        quiet = refl;
+        step = record { changes = change ∷ []; yielded = subst (λ r. Yields r (change ∷ [])) (sym rule) refl; fired = fired };
+        kept = drop-stored 4 (4 * place) (reg_at 6 loaded) m.ram inside built.needs.ram (omega arith);
+      }
 
-  skip-rounds : p.rule ≡ Skip → Stands built.rom 0 (closed []) → (regs ram : List ℕ) → Rounds (record { pc = 0; regs = regs; ram = ram })
-  unfolding effect done
-  skip-rounds rule stands regs ram readings =
-      let head : HartState = record { pc = 0; regs = regs; ram = ram } in
-      let goes = goes-last built.rom readings head (record { hart = head; event = Quiet }) (tick-fetched built.rom (offered readings) head _ stands.0) in
-      let round = enough.round in
-      let step : Step p (decoded_state built.map ram) (decoded_state built.map ram) =
-      record { changes = []; yielded = subst (λ r. Yields r []) (sym rule) refl; fired = refl } in
-      (1, omega arith, round-goes p built readings head 1 readings head goes refl (lit< tt) refl step refl)
+  -- a round of a block that leads somewhere
+  rounds : (rule : PlainRule) → IsClosed built.rom size (body_of (codomains p) rule) → (readings : List ℕ) (m : HartState) → IsValid size m → m.pc ≡ 0 → Leads rule readings m
+      → (t : ℕ) × (t ≤ built.needs.round) × Round p built readings m t (after built.rom t readings m)
+  rounds rule closed readings m valid head leads = of_round (goes-round (body_of (codomains p) rule) (body-is-block (codomains p) rule) built.rom size readings m closed valid head tt (λ s stops. (one_way s).1 stops))
+    where
+      one_way : (other : Moment) → (LineDoes built.rom 0 (line_of (codomains p) rule) (started readings m) other → other ≡ leads.end)
+          × (LineStops built.rom 0 (line_of (codomains p) rule) (started readings m) other → ⊥)
+      one_way other = lines-lead-one-way built.rom 0 (line_of (codomains p) rule) (started readings m) leads.end other leads.does
 
-  -- the code of a rule goes straight on, and is short
-  record IsLine (line : List Instr) : Type 0 where
-    straight : AreStraight line
-    short : length line ≤ 4
+      of_round : GoneRound built.rom readings m (body_of (codomains p) rule) → (t : ℕ) × (t ≤ built.needs.round) × Round p built readings m t (after built.rom t readings m)
+      of_round r =
+          let ended : r.ended ≡ leads.end = (one_way r.ended).0 r.does in
+          let memory : leads.end.hart.ram ≡ (after built.rom r.ticks readings m).ram = sym (ap (λ n. n.ram) r.hart ∙ ap (λ x. x.hart.ram) ended) in
+          let made : Step p (decoded_state built.map m.ram) (decoded_state built.map (after built.rom r.ticks readings m).ram) =
+          subst (λ n. Step p (decoded_state built.map m.ram) (decoded_state built.map n)) memory leads.step in
+          let short = body-short (codomains p) rule in let round = enough.round in let soon = r.soon in (
+            r.ticks,
+            omega arith,
+            record {
+              starts = head;
+              lasts = r.some;
+              arrives = refl;
+              ends = ap (λ n. n.pc) r.hart;
+              away = r.away;
+              untrapped = r.untrapped;
+              taken = r.taken ∙ ap (λ x. ports_taken x.log) ended ∙ ap ports_taken leads.quiet;
+              sent = r.sent ∙ ap (λ x. words_sent x.log) ended ∙ ap words_sent leads.quiet;
+              step = made;
+              least = record { changes = made.changes; yielded = made.yielded; fired = made.fired };
+              kept = sym (ap (drop built.needs.ram) memory) ∙ leads.kept;
+            },
+          )
 
-  IsLine-skip : IsLine []
-  IsLine-skip = record { straight = tt; short = lit≤ tt }
-
-  IsLine-update : (place : ℕ) (value : ℤ) → IsLine (line_of (codomains p) (Update place value))
-  unfolding effect
-  IsLine-update place value =
-      record { straight = (λ m. tt, (λ m. tt, (λ m. tt, (λ m. tt, tt)))); short = lit≤ tt }
-
-  module _ (image : IsImage built.written built.rom) (rom_least : 2 ^ 16 ≤ length built.rom) (rom_limit : 4 * length built.rom ≤ 2 ^ 20) where
-    from_line : (line : List Instr) → IsLine line → AreRows built.written (closed line)
-        → (Stands built.rom 0 (closed line) → (regs ram : List ℕ) → length regs ≡ 32 → length ram ≡ size → Rounds (record { pc = 0; regs = regs; ram = ram }))
-        → Stabilizes size p built
-    from_line line is code rounds_from =
-        let stands = stands-written built.rom built.written image [] built.written (closed line) refl code in
-        let short = is.short in
-        let words = enough.rom in
-        let ticks = enough.anchor in
-        let rows = length-rows built.written (closed line) code ∙ length-append line _ in
+  module _ (image : IsImage built.written built.rom) (rom_least : 2 ^ 16 ≤ length built.rom) where
+    from_rule : (rule : PlainRule) → AreRows built.written (closed (body_of (codomains p) rule))
+        → (Stands built.rom 0 (line_of (codomains p) rule) → (readings : List ℕ) (m : HartState) → IsValid size m → m.pc ≡ 0 → Leads rule readings m) → Stabilizes size p built
+    from_rule rule rows leads =
+        let body = body_of (codomains p) rule in
+        let placed = written-is-closed built.rom built.written size body machine image rows in
+        let is_block = body-is-block (codomains p) rule in
+        let short = body-short (codomains p) rule in
+        let words = enough.rom in let ticks = enough.anchor in
+        let count = length-rows built.written (closed body) rows ∙ length-append (line_of (codomains p) rule) (jump_home (4 * len body) ∷ []) in
         record {
           image = image;
           short = omega arith;
@@ -134,22 +156,14 @@ module _ (size : ℕ) (p : PlainProgram) (plain : IsPlain p) (in_range : IsInRan
           needs = needs;
           within = subst (AreWithinLimits size (length built.rom)) (sym needs) (needs-within p plain size (length built.rom) least rom_least);
           anchored = λ m readings v.
-              let r = anchors built.rom built.written image line code is.straight rom_limit readings m in
+              let r = comes-home body is_block built.rom size readings m placed v in
               (r.0, omega (arith, r.1), r.2);
-          rounds = λ m readings v at.
-              let same : m ≡ record { pc = 0; regs = m.regs; ram = m.ram } = ap (λ n. record { pc = n; regs = m.regs; ram = m.ram }) at in
-              subst Rounds (sym same) (rounds_from stands m.regs m.ram v.regs.count v.ram.count) readings;
+          rounds = λ m readings v at. rounds rule placed readings m v at (leads placed.stands readings m v at);
         }
 
-    pub stabilizes : AreRows built.written (closed (line_of (codomains p) p.rule)) → Stabilizes size p built
-    stabilizes code = by_rule p.rule refl code
+    pub stabilizes : AreRows built.written (closed (body_of (codomains p) p.rule)) → Stabilizes size p built
+    stabilizes rows = by_rule p.rule refl rows
       where
-        by_rule : (r : PlainRule) → p.rule ≡ r → AreRows built.written (closed (line_of (codomains p) r)) → Stabilizes size p built
-        by_rule Skip e code = from_line [] IsLine-skip code (λ stands regs ram count bytes. skip-rounds e stands regs ram)
-        by_rule (Update place value) e code =
-            from_line (line_of (codomains p) (Update place value)) (IsLine-update place value) code (update-rounds place value e)
-
--- the code of a rule has five words at most
-pub closed-short : (domains : List Domain) (rule : PlainRule) → length (closed (line_of domains rule)) ≤ 5
-closed-short domains Skip = lit≤ tt
-closed-short domains (Update place value) = lit≤ tt
+        by_rule : (r : PlainRule) → p.rule ≡ r → AreRows built.written (closed (body_of (codomains p) r)) → Stabilizes size p built
+        by_rule Skip e rows = from_rule Skip rows (λ stands readings m v at. skip-leads e readings m)
+        by_rule (Update place value) e rows = from_rule (Update place value) rows (λ stands readings m v at. update-leads place value e stands readings m v at)

@@ -6,8 +6,8 @@ use Rattle.std.specs.List.{list_all}
 use Rattle.std.proofs.lemmas.List.{set_comm, take_more}
 use Rattle.std.proofs.lemmas.List.Folds.{list_all-append}
 use Rattle.std.proofs.lemmas.List.Sums.{fold-append}
-use Rattle.std.proofs.lemmas.Bool.{cases_Bool, cases_eq, and_parts, ne_eqb}
-use Rattle.std.proofs.lemmas.Bool.Decides.{Decides-int_eq}
+use Rattle.std.proofs.lemmas.Bool.{cases_eq, and_parts, ne_eqb}
+use Rattle.std.proofs.lemmas.Bool.Decides.{Decides-int_eq, Decides-eqb, same_from_decides}
 use Rattle.state_space.specs.declared.update.Update.{Update}
 use Rattle.state_space.specs.Firing.{agree, all_agree, overwritten}
 use Rattle.state_space.specs.Pending.{Row, first_value, admits, kept_or, noted, cleared}
@@ -86,31 +86,16 @@ int_eq-refl : (v : ℤ) → int_eq v v ≡ true
 int_eq-refl v = (Decides-int_eq v v).1 refl
 
 int_eq-sym : (v w : ℤ) → int_eq v w ≡ int_eq w v
-int_eq-sym v w = elim (cases_Bool (int_eq v w)) [
-  | inl e ↦ e ∙ sym ((Decides-int_eq w v).1 (sym ((Decides-int_eq v w).0 e)))
-  | inr e ↦ elim (cases_Bool (int_eq w v)) [
-    | inl f ↦ (Decides-int_eq v w).1 (sym ((Decides-int_eq w v).0 f)) ∙ sym f
-    | inr f ↦ e ∙ sym f
-  ]
-]
+int_eq-sym v w = let d = Decides-int_eq w v in same_from_decides _ _ (Decides-int_eq v w) (λ e. sym (d.0 e), λ e. d.1 (sym e))
 
 eqb-sym : (m n : ℕ) → (m == n) ≡ (n == m)
-eqb-sym m n = elim (cases_eq m n) [
-  | inl e ↦ eq-eqb m n e ∙ sym (eq-eqb n m (sym e))
-  | inr ne ↦ ne_eqb m n ne ∙ sym (ne_eqb n m (λ e. ne (sym e)))
-]
+eqb-sym m n = let d = Decides-eqb n m in same_from_decides _ _ (Decides-eqb m n) (λ e. sym (d.0 e), λ e. d.1 (sym e))
 
 agree-sym : (a b : Update) → agree a b ≡ agree b a
 agree-sym a b = let p = eqb-sym a.place b.place in let v = int_eq-sym a.value b.value in cc
 
 agree-refl : (a : Update) → agree a a ≡ true
 agree-refl a = ap (λ b. not b || int_eq a.value a.value) (eq-eqb a.place a.place refl) ∙ int_eq-refl a.value
-
-agree-other : (a b : Update) → a.place ≢ b.place → agree a b ≡ true
-agree-other a b ne = ap (λ c. not c || int_eq a.value b.value) (ne_eqb a.place b.place ne)
-
-agree-here : (a b : Update) → a.place ≡ b.place → agree a b ≡ int_eq a.value b.value
-agree-here a b e = ap (λ c. not c || int_eq a.value b.value) (eq-eqb a.place b.place e)
 
 swap_and : (a b c d : Bool) → ((a && b) && (c && d)) ≡ ((a && c) && (b && d))
 swap_and true true c d = refl
@@ -126,57 +111,51 @@ all-same : (p q : Update → Bool) (xs : List Update) → ((a : Update) → p a 
 all-same p q [] h = refl
 all-same p q (x ∷ xs) h = let e = h x in let r = all-same p q xs h in cc
 
-all-parted : (x : Update) (xs : List Update) → all_agree (x ∷ xs) ≡ true → (list_all (agree x) xs ≡ true) × (all_agree xs ≡ true)
-all-parted x xs h =
-    let parts = and_parts (list_all (agree x) (x ∷ xs)) (list_all (λ a. list_all (agree a) (x ∷ xs)) xs) h in
-    let first = and_parts (agree x x) (list_all (agree x) xs) parts.0 in
-    let later = and_parts (list_all (λ a. agree a x) xs) (all_agree xs) (sym (all-and (λ a. agree a x) (λ a. list_all (agree a) xs) xs) ∙ parts.1) in
-    (first.1, later.1)
+all-first : (x : Update) (xs : List Update) → all_agree (x ∷ xs) ≡ (list_all (agree x) xs && all_agree xs)
+all-first x xs =
+    let own : (agree x x && list_all (agree x) xs) ≡ list_all (agree x) xs = ap (λ b. b && list_all (agree x) xs) (agree-refl x) in
+    ap (λ b. b && list_all (λ a. agree a x && list_all (agree a) xs) xs) own
+    ∙ ap (λ b. list_all (agree x) xs && b) (all-and (λ a. agree a x) (λ a. list_all (agree a) xs) xs ∙ ap (λ b. b && all_agree xs) (all-same _ (agree x) xs (λ a. agree-sym a x)))
+    ∙ twice (list_all (agree x) xs) (all_agree xs)
+  where
+    twice : (a b : Bool) → (a && (a && b)) ≡ (a && b)
+    twice true b = refl
+    twice false b = refl
 
-agrees-first : (u : Update) (xs : List Update) → all_agree xs ≡ true → list_all (agree u) xs ≡ admits (first_value u.place xs) u.value
-agrees-first u [] h = refl
-agrees-first u (x ∷ xs) h =
-    let parts = all-parted x xs h in
-    elim (cases_eq x.place u.place) [
-      | inl e ↦
-          let first : first_value u.place (x ∷ xs) ≡ Some x.value = ap (λ b. if b then Some x.value else first_value u.place xs) (eq-eqb x.place u.place e) in
-          ap (λ b. b && list_all (agree u) xs) (agree-here u x (sym e)) ∙ same e parts.0 (cases_Bool (int_eq u.value x.value)) ∙ ap (λ o. admits o u.value) (sym first)
-      | inr ne ↦
-          let first : first_value u.place (x ∷ xs) ≡ first_value u.place xs = ap (λ b. if b then Some x.value else first_value u.place xs) (ne_eqb x.place u.place ne) in
-          ap (λ b. b && list_all (agree u) xs) (agree-other u x (λ e. ne (sym e))) ∙ agrees-first u xs parts.1 ∙ ap (λ o. admits o u.value) (sym first)
+admits-first : (x : Update) (xs : List Update) → list_all (agree x) xs ≡ true → admits (first_value x.place xs) x.value ≡ true
+admits-first x [] h = refl
+admits-first x (y ∷ ys) h =
+    let parts = and_parts (agree x y) (list_all (agree x) ys) h in
+    elim (cases_eq y.place x.place) [
+      | inl e ↦ rw (eq-eqb y.place x.place e) (sym (ap (λ b. not b || int_eq x.value y.value) (eq-eqb x.place y.place (sym e))) ∙ parts.0)
+      | inr ne ↦ rw (ne_eqb y.place x.place ne) (admits-first x ys parts.1)
     ]
-  where
-    same : x.place ≡ u.place → list_all (agree x) xs ≡ true → (int_eq u.value x.value ≡ true) ⊎ (int_eq u.value x.value ≡ false) → (int_eq u.value x.value && list_all (agree u) xs) ≡ int_eq u.value x.value
-    same e all (inl t) =
-        let value : u.value ≡ x.value = (Decides-int_eq u.value x.value).0 t in
-        let alike : (b : Update) → agree u b ≡ agree x b = λ b. (let p : (u.place == b.place) ≡ (x.place == b.place) = ap (λ n. n == b.place) (sym e) in let v : int_eq u.value b.value ≡ int_eq x.value b.value = ap (λ n. int_eq n b.value) value in cc) in
-        ap (λ b. b && list_all (agree u) xs) t ∙ all-same (agree u) (agree x) xs alike ∙ all ∙ sym t
-    same e all (inr f) = ap (λ b. b && list_all (agree u) xs) f ∙ sym f
-
-join_and : (a b : Bool) → ((a && b) && (b && true)) ≡ (a && b)
-join_and true true = refl
-join_and true false = refl
-join_and false b = refl
-
-all-more : (xs : List Update) (u : Update) → all_agree (xs ++ u ∷ []) ≡ (all_agree xs && list_all (agree u) xs)
-all-more xs u =
-    let own : list_all (agree u) (xs ++ u ∷ []) ≡ list_all (agree u) xs =
-    list_all-append (agree u) xs (u ∷ []) ∙ ap (λ b. list_all (agree u) xs && (b && true)) (agree-refl u) ∙ and_true (list_all (agree u) xs) in
-    let each : (a : Update) → list_all (agree a) (xs ++ u ∷ []) ≡ (list_all (agree a) xs && agree u a) =
-    λ a. list_all-append (agree a) xs (u ∷ []) ∙ ap (λ b. list_all (agree a) xs && b) (and_true (agree a u) ∙ agree-sym a u) in
-    list_all-append (λ a. list_all (agree a) (xs ++ u ∷ [])) xs (u ∷ [])
-    ∙ ap (λ b. b && (list_all (agree u) (xs ++ u ∷ []) && true)) (all-same _ _ xs each ∙ all-and (λ a. list_all (agree a) xs) (agree u) xs)
-    ∙ ap (λ b. (all_agree xs && list_all (agree u) xs) && (b && true)) own ∙ join_and (all_agree xs) (list_all (agree u) xs)
-  where
-    and_true : (b : Bool) → (b && true) ≡ b
-    and_true true = refl
-    and_true false = refl
 
 all-admits : (xs : List Update) (u : Update) → all_agree (xs ++ u ∷ []) ≡ (all_agree xs && admits (first_value u.place xs) u.value)
-all-admits xs u = all-more xs u ∙ elim (cases_Bool (all_agree xs)) [
-  | inl t ↦ ap (λ b. all_agree xs && b) (agrees-first u xs t)
-  | inr f ↦ ap (λ b. b && list_all (agree u) xs) f ∙ sym (ap (λ b. b && admits (first_value u.place xs) u.value) f)
-]
+all-admits [] u = all-first u []
+all-admits (x ∷ xs) u =
+    all-first x (xs ++ u ∷ [])
+    ∙ ap (λ b. b && all_agree (xs ++ u ∷ [])) (list_all-append (agree x) xs (u ∷ []))
+    ∙ ap (λ b. (list_all (agree x) xs && (agree x u && true)) && b) (all-admits xs u)
+    ∙ by (cases_eq x.place u.place)
+    ∙ ap (λ b. b && admits (first_value u.place (x ∷ xs)) u.value) (sym (all-first x xs))
+  where
+    joined : (a b c d : Bool) → (a ≡ true → c ≡ true → d ≡ true) → ((a && (c && true)) && (b && d)) ≡ ((a && b) && c)
+    joined true b true d h = ap (λ e. b && e) (h refl refl)
+    joined true true false d h = refl
+    joined true false false d h = refl
+    joined false b c d h = refl
+
+    parted : (a b d : Bool) → ((a && true) && (b && d)) ≡ ((a && b) && d)
+    parted true b d = refl
+    parted false b d = refl
+
+    by : (x.place ≡ u.place) ⊎ (x.place ≢ u.place)
+        → ((list_all (agree x) xs && (agree x u && true)) && (all_agree xs && admits (first_value u.place xs) u.value)) ≡ ((list_all (agree x) xs && all_agree xs) && admits (first_value u.place (x ∷ xs)) u.value)
+    by (inl e) =
+        rw (eq-eqb x.place u.place e, int_eq-sym x.value u.value)
+        (joined (list_all (agree x) xs) (all_agree xs) (int_eq u.value x.value) (admits (first_value u.place xs) u.value) (λ a c. (let v : u.value ≡ x.value = (Decides-int_eq u.value x.value).0 c in let first = admits-first x xs a in cc)))
+    by (inr ne) = rw (ne_eqb x.place u.place ne) (parted (list_all (agree x) xs) (all_agree xs) (admits (first_value u.place xs) u.value))
 
 -- ---- the loops
 -- the row and what is known of agreement after the first of the updates
@@ -185,19 +164,6 @@ pub record Gathered (before : Row) (updates : List Update) (i : ℕ) (row : Row)
   pub found : (p : ℕ) → get_or row p None ≡ first_value p (take i updates)
   pub agrees : agreed ≡ all_agree (take i updates)
   pub restored : cleared row (take i updates) ≡ replicate (length before) None
-
-empty-at : (n p : ℕ) → get_or (replicate n None) p None ≡ first_value p []
-empty-at zero p = refl
-empty-at (suc n) zero = refl
-empty-at (suc n) (suc p) = empty-at n p
-
-pub gathered-none : (before : Row) (updates : List Update) → before ≡ replicate (length before) None → Gathered before updates 0 before true
-gathered-none before updates empty = record {
-  long = refl;
-  found = λ p. ap (λ r. get_or r p None) empty ∙ empty-at (length before) p;
-  agrees = refl;
-  restored = empty;
-}
 
 length-kept : (row : Row) (u : Update) (o : Option ℤ) → length (kept_or row u o) ≡ length row
 length-kept row u None = length-set row u.place (Some u.value)

@@ -2,7 +2,7 @@
 use Rattle.std.proofs.Common.{◌≡◌, ℤ, Bool, true, false, List, [], ◌∷◌, ◌++◌, map, refl, sym, ap, ◌∙◌, subst, arith}
 use Rattle.std.specs.Prelude.{if◌then◌else◌, slice_set}
 use Rattle.std.specs.Bool.{MatchBool}
-use Rattle.std.specs.List.{flat_map, Contains}
+use Rattle.std.specs.List.{flat_map}
 use Rattle.asm_names.specs.declared.program.Resolved.{Resolved}
 use Rattle.asm_names.specs.declared.resolved_rule.ResolvedRule.{ResolvedRule}
 use Rattle.asm_names.specs.declared.resolved_rule.ResolvedRule.TheOpen.{ResolvedRule-F}
@@ -33,12 +33,20 @@ module _ (choice : Choice) (program : Resolved) (state : State) (inputs : Inputs
   unfolding YieldsWith
   yields_roll x = rec-roll-ResolvedRule (Env → Updates → Type 0) (YieldsBy choice program state inputs) natural x
 
-first_contained : (x : ℤ) (xs : List ℤ) → Contains (x ∷ xs) x
-first_contained x xs = (0, omega arith, refl)
+-- a choice by which the least element may be chosen
+abbrev TakesLeast : Choice → Type 1
+TakesLeast choice = (xs : List ℤ) (P : ℤ → Type 0) (Q : Type 0) → least_of xs P Q → choice xs P Q
 
-module _ (program : Resolved) (state : State) (inputs : Inputs) where
+any_takes : TakesLeast any_of
+any_takes [] P Q h = h
+any_takes (x ∷ xs) P Q h = (x, (0, omega arith, refl), h)
+
+module _ (choice : Choice) (takes : TakesLeast choice) (program : Resolved) (state : State) (inputs : Inputs) where
+  abbrev Made : ResolvedRule → Env → Updates → Type 0
+  Made = YieldsWith choice program state inputs
+
   abbrev IsYielded : ResolvedRule → Type 0
-  IsYielded rule = (env : Env) → YieldsLeast program state inputs rule env (least program state inputs rule env)
+  IsYielded rule = (env : Env) → Made rule env (least program state inputs rule env)
 
   abbrev Good : Type 0
   Good = (rule : ResolvedRule) × IsYielded rule
@@ -50,48 +58,49 @@ module _ (program : Resolved) (state : State) (inputs : Inputs) where
   joined P f [] h = refl
   joined P f (x ∷ xs) h = (f x, flat_map f xs, h x, joined P f xs h, refl)
 
-  par : (rules : List Good) (env : Env)
-      → Joined (λ part. YieldsLeast program state inputs part env) (map rule_of rules) (flat_map (λ part. part env) (map (least program state inputs) (map rule_of rules)))
+  par : (rules : List Good) (env : Env) → Joined (λ part. Made part env) (map rule_of rules) (flat_map (λ part. part env) (map (least program state inputs) (map rule_of rules)))
   par [] env = refl
   par (r ∷ rules) env = (least program state inputs r.0 env, _, r.1 env, par rules env, refl)
 
   choosing : (xs : List ℤ) (P : ℤ → Updates → Type 0) (Q : Updates → Type 0) (body : ℤ → Updates) (otherwise : Updates)
-      → ((e : ℤ) → P e (body e)) → Q otherwise → least_of xs (λ e. P e (first_or xs body otherwise)) (Q (first_or xs body otherwise))
-  choosing [] P Q body otherwise p q = q
-  choosing (x ∷ xs) P Q body otherwise p q = p x
+      → ((e : ℤ) → P e (body e)) → Q otherwise → choice xs (λ e. P e (first_or xs body otherwise)) (Q (first_or xs body otherwise))
+  choosing [] P Q body otherwise p q = takes [] _ _ q
+  choosing (x ∷ xs) P Q body otherwise p q = takes (x ∷ xs) _ _ (p x)
 
   deciding : (b : Bool) (P Q : Updates → Type 0) (us vs : Updates) → P us → Q vs → MatchBool b (P (if b then us else vs)) (Q (if b then us else vs))
   deciding true P Q us vs p q = p
   deciding false P Q us vs p q = q
 
   layer : (x : ResolvedRule-F Good) (env : Env)
-      → YieldsBy least_of program state inputs ResolvedRule (λ y. y) (YieldsLeast program state inputs) (map-ResolvedRule Good ResolvedRule rule_of x) env
+      → YieldsBy choice program state inputs ResolvedRule (λ y. y) Made (map-ResolvedRule Good ResolvedRule rule_of x) env
       (least_by program state inputs (map-ResolvedRule ResolvedRule (Env → Updates) (least program state inputs) (map-ResolvedRule Good ResolvedRule rule_of x)) env)
   layer ResolvedRule-F.Skip env = refl
   layer (ResolvedRule-F.Update fun args new) env = refl
   layer (ResolvedRule-F.If g t e w) env =
-      deciding (holds (value program state inputs env g)) (YieldsLeast program state inputs t.0 env) (YieldsLeast program state inputs e.0 env)
-      (least program state inputs t.0 env) (least program state inputs e.0 env) (t.1 env) (e.1 env)
+      deciding (holds (value program state inputs env g)) (Made t.0 env) (Made e.0 env) (least program state inputs t.0 env) (least program state inputs e.0 env) (t.1 env) (e.1 env)
   layer (ResolvedRule-F.Par rules) env = par rules env
   layer (ResolvedRule-F.Forall b d g gd body) env = joined _ _ _ (λ e. body.1 (slice_set env b e))
   layer (ResolvedRule-F.Choose b d g body e w) env =
-      choosing (passing program state inputs env b d g) (λ x. YieldsLeast program state inputs body.0 (slice_set env b x)) (YieldsLeast program state inputs e.0 env)
+      choosing (passing program state inputs env b d g) (λ x. Made body.0 (slice_set env b x)) (Made e.0 env)
       (λ x. least program state inputs body.0 (slice_set env b x)) (least program state inputs e.0 env) (λ x. body.1 (slice_set env b x)) (e.1 env)
   layer (ResolvedRule-F.Let b v body) env = body.1 _
 
   rolled : (x : ResolvedRule-F ResolvedRule)
-      → ((env : Env) → YieldsBy least_of program state inputs ResolvedRule (λ y. y) (YieldsLeast program state inputs) x env
-      (least_by program state inputs (map-ResolvedRule ResolvedRule (Env → Updates) (least program state inputs) x) env))
+      → ((env : Env) → YieldsBy choice program state inputs ResolvedRule (λ y. y) Made x env (least_by program state inputs (map-ResolvedRule ResolvedRule (Env → Updates) (least program state inputs) x) env))
       → IsYielded (roll-ResolvedRule x)
   unfolding least
   rolled x h env =
       let made = fold-roll-ResolvedRule (Env → Updates) (least_by program state inputs) x in
-      subst (λ (F : Env → Updates). YieldsLeast program state inputs (roll-ResolvedRule x) env (F env)) (sym made)
-      (subst (λ (F : Env → Updates → Type 0). F env (least_by program state inputs (map-ResolvedRule ResolvedRule (Env → Updates) (least program state inputs) x) env)) (sym (yields_roll least_of program state inputs x)) (h env))
+      subst (λ (F : Env → Updates). Made (roll-ResolvedRule x) env (F env)) (sym made)
+      (subst (λ (F : Env → Updates → Type 0). F env (least_by program state inputs (map-ResolvedRule ResolvedRule (Env → Updates) (least program state inputs) x) env)) (sym (yields_roll choice program state inputs x)) (h env))
 
+  is_yielded : (rule : ResolvedRule) → IsYielded rule
+  is_yielded = ind-ResolvedRule IsYielded (λ x y is. subst (λ z. IsYielded (roll-ResolvedRule z)) is (rolled (map-ResolvedRule Good ResolvedRule rule_of y) (layer y)))
+
+module _ (program : Resolved) (state : State) (inputs : Inputs) where
   -- the computed updates are those of the least choices
-  pub least_is_yielded : (rule : ResolvedRule) → IsYielded rule
-  least_is_yielded = ind-ResolvedRule IsYielded (λ x y is. subst (λ z. IsYielded (roll-ResolvedRule z)) is (rolled (map-ResolvedRule Good ResolvedRule rule_of y) (layer y)))
+  pub least_is_yielded : (rule : ResolvedRule) (env : Env) → YieldsLeast program state inputs rule env (least program state inputs rule env)
+  least_is_yielded rule env = is_yielded least_of (λ xs P Q h. h) program state inputs rule env
 
   -- how a claim on what is yielded goes from the layers to the rules
   abbrev Opened : ResolvedRule-F ResolvedRule → Env → Updates → Type 0
@@ -162,53 +171,7 @@ module _ (program : Resolved) (state : State) (inputs : Inputs) where
   pub least_is_only : (rule : ResolvedRule) → IsOnly rule
   least_is_only = ind-ResolvedRule IsOnly (λ x y is. subst (λ z. IsOnly (roll-ResolvedRule z)) is (only_rolled (map-ResolvedRule Only ResolvedRule only_rule y) (only_layer y)))
 
-  -- ---- the least choices are choices
-  abbrev IsAny : ResolvedRule → Type 0
-  IsAny rule = (env : Env) (us : Updates) → YieldsLeast program state inputs rule env us → Yields program state inputs rule env us
-
-  abbrev Any : Type 0
-  Any = (rule : ResolvedRule) × IsAny rule
-
-  abbrev any_rule : Any → ResolvedRule
-  any_rule g = g.0
-
-  any_joined : {A : Type 0} (P Q : A → Updates → Type 0) (xs : List A) → ((x : A) (us : Updates) → P x us → Q x us) → (us : Updates) → Joined P xs us → Joined Q xs us
-  any_joined P Q [] h us e = e
-  any_joined P Q (x ∷ xs) h us (first, others, p, q, e) = (first, others, h x first p, any_joined P Q xs h others q, e)
-
-  any_par : (rules : List Any) (env : Env) (us : Updates) → Joined (λ part. YieldsLeast program state inputs part env) (map any_rule rules) us
-      → Joined (λ part. Yields program state inputs part env) (map any_rule rules) us
-  any_par [] env us e = e
-  any_par (r ∷ rules) env us (first, others, p, q, e) = (first, others, r.1 env first p, any_par rules env others q, e)
-
-  any_deciding : (b : Bool) (P Q R S : Type 0) → (P → R) → (Q → S) → MatchBool b P Q → MatchBool b R S
-  any_deciding true P Q R S f g h = f h
-  any_deciding false P Q R S f g h = g h
-
-  any_choosing : (xs : List ℤ) (P R : ℤ → Type 0) (Q S : Type 0) → ((e : ℤ) → P e → R e) → (Q → S) → least_of xs P Q → any_of xs R S
-  any_choosing [] P R Q S f g h = g h
-  any_choosing (x ∷ xs) P R Q S f g h = (x, first_contained x xs, f x h)
-
-  any_layer : (x : ResolvedRule-F Any) (env : Env) (us : Updates) → Opened (map-ResolvedRule Any ResolvedRule any_rule x) env us
-      → YieldsBy any_of program state inputs ResolvedRule (λ y. y) (Yields program state inputs) (map-ResolvedRule Any ResolvedRule any_rule x) env us
-  any_layer ResolvedRule-F.Skip env us h = h
-  any_layer (ResolvedRule-F.Update fun args new) env us h = h
-  any_layer (ResolvedRule-F.If g t e w) env us h =
-      any_deciding (holds (value program state inputs env g)) (YieldsLeast program state inputs t.0 env us) (YieldsLeast program state inputs e.0 env us)
-      (Yields program state inputs t.0 env us) (Yields program state inputs e.0 env us) (t.1 env us) (e.1 env us) h
-  any_layer (ResolvedRule-F.Par rules) env us h = any_par rules env us h
-  any_layer (ResolvedRule-F.Forall b d g gd body) env us h =
-      any_joined (λ e. YieldsLeast program state inputs body.0 (slice_set env b e)) (λ e. Yields program state inputs body.0 (slice_set env b e))
-      (passing program state inputs env b d g) (λ e. body.1 (slice_set env b e)) us h
-  any_layer (ResolvedRule-F.Choose b d g body e w) env us h =
-      any_choosing (passing program state inputs env b d g) (λ x. YieldsLeast program state inputs body.0 (slice_set env b x) us) (λ x. Yields program state inputs body.0 (slice_set env b x) us)
-      (YieldsLeast program state inputs e.0 env us) (Yields program state inputs e.0 env us) (λ x. body.1 (slice_set env b x) us) (e.1 env us) h
-  any_layer (ResolvedRule-F.Let b v body) env us h = body.1 _ us h
-
-  any_rolled : (x : ResolvedRule-F ResolvedRule)
-      → ((env : Env) (us : Updates) → Opened x env us → YieldsBy any_of program state inputs ResolvedRule (λ y. y) (Yields program state inputs) x env us)
-      → IsAny (roll-ResolvedRule x)
-  any_rolled x h env us y = subst (λ (F : Env → Updates → Type 0). F env us) (sym (yields_roll any_of program state inputs x)) (h env us (opened x env us y))
-
-  pub least_is_any : (rule : ResolvedRule) → IsAny rule
-  least_is_any = ind-ResolvedRule IsAny (λ x y is. subst (λ z. IsAny (roll-ResolvedRule z)) is (any_rolled (map-ResolvedRule Any ResolvedRule any_rule y) (any_layer y)))
+  -- the least choices are choices
+  pub least_is_any : (rule : ResolvedRule) (env : Env) (us : Updates) → YieldsLeast program state inputs rule env us → Yields program state inputs rule env us
+  least_is_any rule env us h =
+      subst (λ vs. Yields program state inputs rule env vs) (sym (least_is_only rule env us h)) (is_yielded any_of any_takes program state inputs rule env)

@@ -1,9 +1,10 @@
 -- A step keeps the values of locations in their codomains.
-use Rattle.std.proofs.Common.{◌≡◌, ℕ, zero, suc, ◌<◌, ℤ, Bool, true, false, cond, List, [], ◌∷◌, ◌++◌, map, length, get_or, set, Option, Some, None, refl, sym, ap, ◌∙◌, subst, arith, ltb}
+use Rattle.std.proofs.Common.{◌≡◌, ℕ, zero, suc, ◌<◌, ℤ, Bool, true, false, cond, List, [], ◌∷◌, ◌++◌, map, length, get_or, set, Option, Some, None, refl, sym, subst, arith}
 use Rattle.std.specs.Prelude.{slice_get, slice_set, if◌then◌else◌}
-use Rattle.std.specs.List.{flat_map, filter, position, position_or_len, AllByRecursion, AllZip}
-use Rattle.std.proofs.lemmas.Bool.{and_parts, ltb-true, eqb-true}
-use Rattle.std.proofs.lemmas.List.Sums.{passes_at_first}
+use Rattle.std.specs.List.{flat_map, filter, All, AllByRecursion, AllZip}
+use Rattle.std.proofs.lemmas.Bool.{and_parts, eqb-true}
+use Rattle.std.proofs.lemmas.List.Quantifiers.{position-Some}
+use Rattle.asm_names.proofs.Known.{all-append}
 use Rattle.asm_names.specs.declared.program.Resolved.{Resolved}
 use Rattle.asm_names.specs.declared.resolved_rule.ResolvedRule.{ResolvedRule}
 use Rattle.asm_names.specs.declared.resolved_rule.ResolvedRule.TheOpen.{ResolvedRule-F}
@@ -23,17 +24,6 @@ use Rattle.update_sets.specs.Least.{least, least_by, first_or}
 use Rattle.state_space.specs.Firing.{all_agree, overwritten, fired}
 use Rattle.update_sets.proofs.Elements.{all-in}
 
-found : (b : Bool) (n k : ℕ) → cond b (Some n) None ≡ Some k → (b ≡ true) × (n ≡ k)
-found true n k h = (refl, cc)
-found false n k h = absurd cc
-
--- what is found passes the test
-position-passes : {A : Type 0} (p : A → Bool) (xs : List A) (k : ℕ) (d : A) → position p xs ≡ Some k → (k < length xs) × (p (get_or xs k d) ≡ true)
-position-passes p xs k d h =
-    let f = found (ltb (position_or_len p xs) (length xs)) (position_or_len p xs) k h in
-    let within : position_or_len p xs < length xs = ltb-true _ _ f.0 in
-    (omega (arith, within, f.1), ap (λ i. p (get_or xs i d)) (sym f.1) ∙ passes_at_first p xs d within)
-
 module _ (program : Resolved) (state : State) (inputs : Inputs) (reads : ReadsFit program state inputs) where
   abbrev shapes : List Shape
   shapes = shapes_of program
@@ -52,8 +42,7 @@ module _ (program : Resolved) (state : State) (inputs : Inputs) (reads : ReadsFi
   AllFit us = AllByRecursion Fit us
 
   both : (us vs : Updates) → AllFit us → AllFit vs → AllFit (us ++ vs)
-  both [] vs p q = q
-  both (u ∷ us) vs p q = (p.0, both us vs p.1 q)
+  both us vs p q = all-append Fit us vs p q
 
   each : (P : ℤ → Type 0) (f : ℤ → Updates) (xs : List ℤ) → AllByRecursion P xs → ((x : ℤ) → P x → AllFit (f x)) → AllFit (flat_map f xs)
   each P f [] all h = tt
@@ -74,7 +63,7 @@ module _ (program : Resolved) (state : State) (inputs : Inputs) (reads : ReadsFi
   writes : (fun : ℕ) (args : List ℤ) (v : ℤ) (o : Option ℕ) → place_among locations (record { fun = fun; args = args }) ≡ o → In (codomain_range (slice_get shapes fun)) v → AllFit (update_at o v)
   writes fun args v None e h = tt
   writes fun args v (Some k) e h =
-      let p = position-passes (same_location (record { fun = fun; args = args })) locations k nowhere e in
+      let p = position-Some (same_location (record { fun = fun; args = args })) locations k nowhere e in
       let same : fun ≡ (get_or locations k nowhere).fun = eqb-true _ _ (and_parts _ _ p.1).0 in
       ((p.0, subst (λ f. In (codomain_range (slice_get shapes f)) v) same h), tt)
 
@@ -143,6 +132,11 @@ module _ (program : Resolved) (state : State) (inputs : Inputs) (reads : ReadsFi
   firing false us h = reads.states
 
   -- the state after the updates of the least choices fits
-  pub fired_fits : (rule : ResolvedRule) (env : Env) → RulePlaced program rule env → ReadsFit program (fired state (least program state inputs rule env)) inputs
-  fired_fits rule env placed =
-      record { states = firing (all_agree (least program state inputs rule env)) (least program state inputs rule env) (least_fits rule env placed); readings = reads.readings; tables = reads.tables }
+  pub fired_fits : (rule : ResolvedRule) (env : Env) → RulePlaced program rule env → StateFits (fired state (least program state inputs rule env))
+  fired_fits rule env placed = firing (all_agree (least program state inputs rule env)) (least program state inputs rule env) (least_fits rule env placed)
+
+  -- each update has a place of the state
+  pub fit_placed : (us : Updates) → AllFit us → All (λ u. u.place < length locations) us
+  fit_placed [] fit k d h = absurd (omega arith)
+  fit_placed (u ∷ us) fit zero d h = fit.0.0
+  fit_placed (u ∷ us) fit (suc k) d h = fit_placed us fit.1 k d (omega arith)

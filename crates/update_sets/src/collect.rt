@@ -7,7 +7,7 @@ ghost use Rattle.asm_ranges.specs.Values.{value, holds as holds_of};
 ghost use Rattle.state_space.specs.Codomains.{In};
 ghost use Rattle.asm_ranges.specs.Rules.{TermPlaced, RulePlaced, RulesPlaced, ElementsPlaced, domain_interval};
 ghost use Rattle.update_sets.specs.Binding.{Binds};
-ghost use Rattle.update_sets.specs.Fitting.{Fitting};
+ghost use Rattle.update_sets.specs.Readable.{Readable};
 ghost use Rattle.update_sets.specs.Yields.{passing};
 ghost use Rattle.update_sets.specs.Least.{least, first_of, least_of_all, least_of_each};
 
@@ -31,7 +31,7 @@ impl Reading<'_> {
 
     /// Whether a guard holds where a binder has a value.
     fn passes(self, guard: &ResolvedTerm, binder: u32, element: i64, env: &mut [i64]) -> bool
-        requires fitting { Fitting self.program.now self.space.now self.state.now self.inputs.now }
+        requires fitting { Readable self.program.now self.space.now self.state.now self.inputs.now }
         requires room { binder < length env.old }
         requires placed { TermPlaced self.program.now guard.now (slice_set env.old binder element) }
         ensures answer { result ≡ holds_of (value self.entry.program.now self.entry.state.now self.entry.inputs.now (slice_set env.old binder element) guard.now) }
@@ -52,7 +52,7 @@ impl Reading<'_> {
         domain: u32,
         env: &mut [i64],
     ) -> Option<i64>
-        requires fitting { Fitting self.program.now self.space.now self.state.now self.inputs.now }
+        requires fitting { Readable self.program.now self.space.now self.state.now self.inputs.now }
         requires room { binder < length env.old }
         requires placed { (e : ℤ) → In (domain_interval self.program.now domain) e → TermPlaced self.program.now guard.now (slice_set env.old binder e) }
         ensures found { result ≡ first_of (passing self.entry.program.now self.entry.state.now self.entry.inputs.now env.old binder domain guard.now) }
@@ -78,7 +78,7 @@ impl Reading<'_> {
         env: &mut [i64],
         out: &mut Updates,
     ) -> Collected
-        requires fitting { Fitting self.program.now self.space.now self.state.now self.inputs.now }
+        requires fitting { Readable self.program.now self.space.now self.state.now self.inputs.now }
         requires room { binder < length env.old }
         requires placed { RulePlaced self.program.now rule.now (slice_set env.old binder bound) }
         ensures kept { OnOk result (env.new ≡ env.old) }
@@ -102,7 +102,7 @@ impl Reading<'_> {
         env: &mut [i64],
         out: &mut Updates,
     ) -> Collected
-        requires fitting { Fitting self.program.now self.space.now self.state.now self.inputs.now }
+        requires fitting { Readable self.program.now self.space.now self.state.now self.inputs.now }
         requires placed { ElementsPlaced self.program.now binder domain guard.now body.now env.old }
         ensures kept { OnOk result (env.new ≡ env.old) }
         ensures updates { OnOk result (out.new ≡ out.old ++ least_of_each self.entry.program.now self.entry.state.now self.entry.inputs.now env.old binder guard.now body.now (elements (locations.range_of self.entry.program.now.domains domain))) }
@@ -120,7 +120,7 @@ impl Reading<'_> {
     /// The updates of several rules.
     #[cycle(collect)]
     fn collect_all(self, rules: &[ResolvedRule], env: &mut [i64], out: &mut Updates) -> Collected
-        requires fitting { Fitting self.program.now self.space.now self.state.now self.inputs.now }
+        requires fitting { Readable self.program.now self.space.now self.state.now self.inputs.now }
         requires placed { RulesPlaced self.program.now rules.now env.old }
         ensures kept { OnOk result (env.new ≡ env.old) }
         ensures updates { OnOk result (out.new ≡ out.old ++ least_of_all self.entry.program.now self.entry.state.now self.entry.inputs.now env.old rules.now) }
@@ -134,7 +134,7 @@ impl Reading<'_> {
     /// Appends the updates of a rule that binds a name.
     #[cycle(collect)]
     fn collect_binding(self, rule: &ResolvedRule, env: &mut [i64], out: &mut Updates) -> Collected
-        requires fitting { Fitting self.program.now self.space.now self.state.now self.inputs.now }
+        requires fitting { Readable self.program.now self.space.now self.state.now self.inputs.now }
         requires placed { RulePlaced self.program.now rule.now env.old }
         requires binds { Binds rule.now }
         ensures kept { OnOk result (env.new ≡ env.old) }
@@ -171,7 +171,7 @@ impl Reading<'_> {
     /// Appends the updates of a rule. All terms are evaluated in the state before the step.
     #[cycle(collect)]
     pub fn collect(self, rule: &ResolvedRule, env: &mut [i64], out: &mut Updates) -> Collected
-        requires fitting { Fitting self.program.now self.space.now self.state.now self.inputs.now }
+        requires fitting { Readable self.program.now self.space.now self.state.now self.inputs.now }
         requires placed { RulePlaced self.program.now rule.now env.old }
         ensures kept { OnOk result (env.new ≡ env.old) }
         ensures updates { OnOk result (out.new ≡ out.old ++ least self.entry.program.now self.entry.state.now self.entry.inputs.now rule.now env.old) }

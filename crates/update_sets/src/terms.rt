@@ -5,6 +5,7 @@ ghost use Rattle.std.proofs.Common.{w64};
 ghost use Rattle.asm_ranges.specs.Values as spec;
 ghost use Rattle.asm_ranges.specs.Rules.{TermPlaced, TermsPlaced};
 ghost use Rattle.update_sets.specs.Fitting.{Fitting};
+ghost use Rattle.update_sets.specs.Readable.{Readable};
 
 use crate::reading::Reading;
 use asm_names::ResolvedTerm;
@@ -56,7 +57,7 @@ impl Reading<'_> {
     /// The values of at most three terms, and zeros after them.
     #[cycle(value)]
     pub(crate) fn values(self, env: &[i64], terms: &[ResolvedTerm]) -> [i64; 3]
-        requires fitting { Fitting self.program.now self.space.now self.state.now self.inputs.now }
+        requires fitting { Readable self.program.now self.space.now self.state.now self.inputs.now }
         requires placed { TermsPlaced self.program.now terms.now env.now }
         requires few { length terms.now ≤ 3 }
         ensures { take (length terms.now) result ≡ map (spec.value self.entry.program.now self.entry.state.now self.entry.inputs.now env.now) terms.now }
@@ -71,7 +72,7 @@ impl Reading<'_> {
     /// The value of a term.
     #[cycle(value)]
     pub(crate) fn value(self, env: &[i64], term: &ResolvedTerm) -> i64
-        requires fitting { Fitting self.program.now self.space.now self.state.now self.inputs.now }
+        requires fitting { Readable self.program.now self.space.now self.state.now self.inputs.now }
         requires placed { TermPlaced self.program.now term.now env.now }
         ensures { result ≡ spec.value self.entry.program.now self.entry.state.now self.entry.inputs.now env.now term.now }
     {

@@ -1,9 +1,21 @@
-use Rattle.std.proofs.Common.{◌≡◌, ◌*◌, Some, ap, sym, ◌∙◌}
-use Rattle.std.specs.Option.{option_map, option_copied}
-use Rattle.asm_names.specs.Meanings.{meaning_of, size_of_domain}
-use Rattle.asm_names.specs.Table.{scope, known}
-use Rattle.asm_names.proofs.Sizes.{cut_product, times_sizes-next}
+use Rattle.asm_names.proofs.Common.{◌≡◌, ℕ, zero, suc, ◌+◌, ◌*◌, ◌<◌, Bool, true, false, min, Some, ap, sym, ◌∙◌, refl, arith, option_map, option_copied, leb-true, leb-false, meaning_of, size_of_domain, scope, known}
+use Rattle.std.specs.Prelude.{nat_le}
+use Rattle.asm_names.proofs.InTurn.{drop-next}
 use Rattle.asm_names.proofs.declarations.product_of_sizes.Goals as goal
+
+-- a product of a number and one that was cut at m is cut at m where the whole product is
+cut_product : (m p s : ℕ) → min (min p m * s) m ≡ min (p * s) m
+cut_product m p zero = let a : min p m * 0 ≡ 0 = omega arith in let b : p * 0 ≡ 0 = omega arith in rw (a, b) refl
+cut_product m p (suc k) = by (nat_le p m) refl
+  where
+    by : (b : Bool) → nat_le p m ≡ b → min (min p m * suc k) m ≡ min (p * suc k) m
+    by true h = let low : min p m ≡ p = omega (arith, leb-true p m h) in rw low refl
+    by false h =
+        let above : m < p = omega (arith, leb-false p m h) in
+        let low : min p m ≡ m = omega arith in
+        let a : m * suc k ≡ m * k + m = omega arith in
+        let b : p * suc k ≡ p * k + p = omega arith in
+        rw (low, a, b) (omega arith)
 
 pub loop-name-preserved : goal.loop-name-preserved
 loop-name-preserved c =
@@ -12,6 +24,5 @@ loop-name-preserved c =
     let p = c.loop-name.invariant.0 in (
       p * c.in-Some-Domain.size,
       c.saturating_mul-product.ensures ∙ rw (c.loop-name.invariant.1, c.from.ensures) (cut_product 18446744073709551615 p c.in-Some-Domain.size),
-      c.loop-name.invariant.2
-          ∙ times_sizes-next (λ name. size_of_domain (meaning_of (scope c.args.table.now) name)) c.loop-name.name-index c.args.names.now c.name-item.result c.in-Some-Domain.size p c.loop-name-test.true c.name-item.is size,
+      c.loop-name.invariant.2 ∙ rw (drop-next c.loop-name.name-index c.args.names.now c.name-item.result c.loop-name-test.true c.name-item.is, size) refl,
     )

@@ -1,7 +1,4 @@
-use Rattle.std.proofs.Common.{◌≡◌, ℕ, map, min, drop}
-use Rattle.asm_names.specs.Table.{scope}
-use Rattle.asm_names.specs.Meanings.{meaning_of, size_of_domain}
-use Rattle.asm_names.specs.DeclFaults.{times_sizes}
+use Rattle.asm_names.proofs.Common.{◌≡◌, ℕ, map, min, drop, scope, meaning_of, size_of_domain, times_sizes}
 use Rattle.asm_names.proofs.declarations.product_of_sizes.Given as goal
 
 abbrev pub invariant-loop-name : goal.invariant-loop-name

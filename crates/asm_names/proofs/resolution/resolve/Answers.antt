@@ -1,4 +1,4 @@
-use Rattle.std.proofs.Common.{arith}
+use Rattle.asm_names.proofs.Common.{arith}
 use Rattle.asm_names.proofs.Numbering.{binders-tokens}
 use Rattle.asm_names.proofs.ProgramSpans.{program_ascending}
 use Rattle.asm_names.proofs.resolution.resolve.Goals as goal

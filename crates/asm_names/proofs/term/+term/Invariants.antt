@@ -1,9 +1,4 @@
-use Rattle.std.proofs.Common.{◌≡◌, ◌+◌, ◌*◌, map, take, drop, Some}
-use Rattle.asm_names.specs.Table.{scope}
-use Rattle.asm_names.specs.Places.{term_tokens, parted}
-use Rattle.asm_names.specs.TermFaults.{each_faults}
-use Rattle.asm_names.specs.Terms.{resolved_term}
-use Rattle.asm_names.specs.Judging.{part}
+use Rattle.asm_names.proofs.Common.{◌≡◌, ◌+◌, ◌*◌, ◌≤◌, map, take, drop, Some, scope, term_tokens, parted, each_faults, resolved_term, part}
 use Rattle.asm_names.proofs.term.+term.Given as goal
 
 abbrev pub decreases-term : goal.decreases-term
@@ -20,12 +15,6 @@ decreases-negation l = 4 * term_tokens l.inner.now + 2
 
 abbrev pub decreases-pair : goal.decreases-pair
 decreases-pair l = 4 * (term_tokens l.first.now + term_tokens l.second.now) + 2
-
-abbrev pub decreases-minimum : goal.decreases-minimum
-decreases-minimum l = 4 * (term_tokens l.first.now + term_tokens l.second.now) + 3
-
-abbrev pub decreases-maximum : goal.decreases-maximum
-decreases-maximum l = 4 * (term_tokens l.first.now + term_tokens l.second.now) + 3
 
 abbrev pub decreases-conditional : goal.decreases-conditional
 decreases-conditional l = 4 * (term_tokens l.guard.now + term_tokens l.first.now + term_tokens l.second.now) + 2
@@ -45,4 +34,5 @@ invariant-separated-loop-i l = record {
       ≡ each_faults (map Some (drop l.i l.sorts)) (map (part (scope l.table)) (drop l.i l.args)) l.place;
   done : l.resolved ≡ map (resolved_term (scope l.table)) (take l.i l.args);
   place : l.place + parted (map term_tokens (drop l.i l.args)) ≡ l.initial.place + parted (map term_tokens l.args);
+  further : l.initial.place ≤ l.place;
 }

@@ -1,5 +1,4 @@
-use Rattle.std.proofs.Common.{◌≡◌, ◌+◌, drop}
-use Rattle.asm_names.specs.Places.{consts_tokens}
+use Rattle.asm_names.proofs.Common.{◌≡◌, ◌+◌, drop, consts_tokens}
 use Rattle.asm_names.proofs.tokens.tokens_of_consts.Given as goal
 
 abbrev pub invariant-loop-constant : goal.invariant-loop-constant

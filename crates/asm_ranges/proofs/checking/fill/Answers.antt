@@ -8,18 +8,8 @@ pub rule-requires-clause-plain : goal.rule-requires-clause-plain
 rule-requires-clause-plain c =
     rw (c.as_slice.ensures, c.get.ensures) (named_claim c.args.resolved c.args.resolved.rule [] 0 c.requires.well_formed.rule).0
 
-pub invariant_of-result : goal.invariant_of-result
-invariant_of-result c =
+pub invariant_of-result-clause-one_interval_each : goal.invariant_of-result-clause-one_interval_each
+invariant_of-result-clause-one_interval_each c =
     let row = rw (c.as_slice.ensures, c.as_slice-2.ensures, c.get.ensures) at c.in_ok-rule.ensures.1.row in
-    let long = ap length row ∙ (((named_claim c.args.resolved c.args.resolved.rule [] 0 c.requires.well_formed.rule).1 c.clear.new.row).0
-    ∙ (ap length c.clear.ensures ∙ (length-replicate (length c.args.resolved.intervals) (just (pos 0)) ∙ c.args.resolved.one_interval_each))) in
-    record {
-      faultless = c.args.resolved.faultless;
-      same_name = c.args.resolved.same_name;
-      domains_resolved = c.args.resolved.domains_resolved;
-      funs_resolved = c.args.resolved.funs_resolved;
-      all_binders = c.args.resolved.all_binders;
-      one_interval_each = long;
-      legal_resolved = c.args.resolved.legal_resolved;
-      rule_resolved = c.args.resolved.rule_resolved;
-    }
+    ap length row ∙ (((named_claim c.args.resolved c.args.resolved.rule [] 0 c.requires.well_formed.rule).1 c.clear.new.row).0
+    ∙ (ap length c.clear.ensures ∙ (length-replicate (length c.args.resolved.intervals) (just (pos 0)) ∙ c.args.resolved.one_interval_each)))

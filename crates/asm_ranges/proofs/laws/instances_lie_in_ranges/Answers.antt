@@ -1,7 +1,5 @@
-use Rattle.asm_ranges.proofs.InstanceValues.{instance_value}
+use Rattle.asm_ranges.proofs.{InstanceValues.{instance_value}, Readings.{reads_in}, Terms.{value_in_range}}
 use Rattle.asm_ranges.specs.Instances.{numbered_env}
-use Rattle.asm_ranges.proofs.Readings.{reads_in}
-use Rattle.asm_ranges.proofs.Terms.{value_in_range}
 use Rattle.asm_ranges.proofs.laws.instances_lie_in_ranges.Goals as goal
 
 pub returns-clause-values : goal.returns-clause-values

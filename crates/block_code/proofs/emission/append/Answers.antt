@@ -1,12 +1,12 @@
 use Rattle.std.proofs.Common.{◌++◌, [], ◌∷◌, take, subst, sym, ap, ◌∙◌}
 use Rattle.std.proofs.lemmas.List.{take_more}
 use Rattle.block_code.specs.Emit.{HasGrown}
-use Rattle.block_code.proofs.Growth.{begun-take, grown-push, on-err}
+use Rattle.block_code.proofs.Growth.{begun-take, grown-push, refused}
 use Rattle.block_code.proofs.emission.append.Goals as goal
 
-pub returns-in_err-push-clause-err : goal.returns-in_err-push-clause-err
-returns-in_err-push-clause-err c =
-    on-err c.from_residual.result _
+pub returns-in_err-push : goal.returns-in_err-push
+returns-in_err-push c =
+    refused c.from_residual.result c.args.code.now c.args.out.now c.push.new.self c.from_residual.ensures.0
     (begun-take c.args.code.now c.loop-instr.instr-index c.args.out.now c.push.new.self
     (subst (HasGrown (take c.loop-instr.instr-index c.args.code.now) c.args.out.now) (sym c.in_err-push.ensures.err) c.loop-instr.invariant))
 

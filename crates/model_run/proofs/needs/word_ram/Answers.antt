@@ -1,18 +1,14 @@
-use Rattle.std.proofs.Common.{◌≡◌, ◌<◌, get_or, length, sym, ap, ◌∙◌, subst, arith}
-use Rattle.state_space.specs.Locations.{shape_of}
-use Rattle.state_space.specs.Sizes.{IsSized}
-use Rattle.state_space.proofs.Padding.{sized_at}
+use Rattle.std.proofs.Common.{◌<◌, length, ap, arith}
+use Rattle.state_space.proofs.Padding.{shape_read, sized_from}
 use Rattle.model_run.proofs.Sums.{fits-little, needs-all}
 use Rattle.model_run.proofs.needs.word_ram.Goals as goal
 
 pub own_need-requires : goal.own_need-requires
 own_need-requires c =
     let program = c.args.program.now in
-    let item = c.function-item.result in
-    let i = c.loop-function.function-index in
-    let below : i < length program.funs = omega (arith, c.loop-function-test.true, ap length c.as_slice-function-items.ensures) in
-    let is : item ≡ get_or program.funs i item = c.function-item.is ∙ ap (λ xs. get_or xs i item) c.as_slice-function-items.ensures in
-    rw c.as_slice-domains.ensures (subst (λ f. IsSized (shape_of program.domains f)) (sym is) (sized_at program.domains program.funs i item c.resolved_functions_are_sized.ensures below))
+    let same = c.as_slice-function-items.ensures in
+    let below : c.loop-function.function-index < length program.funs = omega (arith, c.loop-function-test.true, ap length same) in
+    rw c.as_slice-domains.ensures (sized_from _ _ _ c.resolved_functions_are_sized.ensures (shape_read program.domains _ _ _ _ same c.function-item.is below))
 
 pub returns-clause-need : goal.returns-clause-need
 returns-clause-need c =

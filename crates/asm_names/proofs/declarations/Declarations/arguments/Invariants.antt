@@ -1,7 +1,4 @@
-use Rattle.std.proofs.Common.{◌≡◌, ◌+◌, ◌*◌, map, take, drop, Some}
-use Rattle.asm_names.specs.Table.{scope}
-use Rattle.asm_names.specs.Meanings.{meaning_of, number_of, sort_of_domain}
-use Rattle.asm_names.specs.DeclFaults.{domains_faults}
+use Rattle.asm_names.proofs.Common.{◌≡◌, ◌+◌, ◌*◌, map, take, drop, Some, scope, meaning_of, number_of, sort_of_domain, domains_faults}
 use Rattle.asm_names.proofs.declarations.Declarations.arguments.Given as goal
 
 abbrev pub invariant-loop-arg : goal.invariant-loop-arg

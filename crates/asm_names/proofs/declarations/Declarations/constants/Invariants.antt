@@ -1,9 +1,5 @@
-use Rattle.std.proofs.Common.{◌≡◌, ◌+◌, map, take, drop}
+use Rattle.asm_names.proofs.Common.{◌≡◌, ◌+◌, map, take, drop, scope, consts_tokens, consts_faults, resolved_const}
 use Rattle.asm_names.specs.declared.sort.Need.TheVariants as needs
-use Rattle.asm_names.specs.Table.{scope}
-use Rattle.asm_names.specs.Places.{consts_tokens}
-use Rattle.asm_names.specs.DeclFaults.{consts_faults}
-use Rattle.asm_names.specs.Programs.{resolved_const}
 use Rattle.asm_names.proofs.declarations.Declarations.constants.Given as goal
 
 abbrev pub invariant-loop-constant : goal.invariant-loop-constant

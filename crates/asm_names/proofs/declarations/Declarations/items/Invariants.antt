@@ -1,6 +1,4 @@
-use Rattle.std.proofs.Common.{◌≡◌, ◌+◌, ◌*◌, ◌++◌, drop}
-use Rattle.asm_names.specs.Table.{scope}
-use Rattle.asm_names.specs.DeclFaults.{items_faults, items_from}
+use Rattle.asm_names.proofs.Common.{◌≡◌, ◌+◌, ◌*◌, ◌++◌, drop, scope, items_faults, items_from}
 use Rattle.asm_names.proofs.declarations.Declarations.items.Given as goal
 
 abbrev pub invariant-loop-index : goal.invariant-loop-index

@@ -1,11 +1,4 @@
-use Rattle.std.proofs.Common.{◌≡◌, ◌+◌, ◌*◌, ◌++◌, map, drop}
-use Rattle.std.specs.Prelude.{sum}
-use Rattle.std.specs.Option.{option_map}
-use Rattle.asm_names.specs.Table.{scope}
-use Rattle.asm_names.specs.Places.{rule_tokens, rule_binders, else_tokens, led}
-use Rattle.asm_names.specs.RuleFaults.{each_rule_faults}
-use Rattle.asm_names.specs.Rules.{resolved_each}
-use Rattle.asm_names.specs.JudgingRules.{faulty, made}
+use Rattle.asm_names.proofs.Common.{◌≡◌, ◌+◌, ◌*◌, ◌≤◌, ◌++◌, map, drop, sum, option_map, scope, rule_tokens, rule_binders, else_tokens, led, each_rule_faults, resolved_each, faulty, made}
 use Rattle.asm_names.proofs.rule.Walk.+rule.Given as goal
 
 abbrev pub decreases-rule : goal.decreases-rule
@@ -44,4 +37,5 @@ invariant-each-loop-rule l = record {
   place : l.self.place + led (map rule_tokens (drop l.rule-index l.rules)) ≡ l.initial.self.place + led (map rule_tokens l.rules);
   binders : l.self.binders + sum (map rule_binders (drop l.rule-index l.rules)) ≡ l.initial.self.binders + sum (map rule_binders l.rules);
   names : scope l.self.table ≡ scope l.initial.self.table;
+  further : l.initial.self.place ≤ l.self.place;
 }

@@ -1,4 +1,4 @@
-use Rattle.std.proofs.Common.{ap, ◌∙◌, ◌≡◌, refl, Vec, ℕ, Global, Bool}
+use Rattle.asm_names.proofs.Common.{ap, ◌∙◌, ◌≡◌, refl, Vec, ℕ, Global, Bool}
 use Rattle.std.specs.Prelude.{bytes_eq}
 use Rattle.indexmap.proofs.CallerLemmas.{insert_entry-new}
 use Rattle.asm_names.specs.Table.{scope}

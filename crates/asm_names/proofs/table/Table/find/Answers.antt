@@ -1,7 +1,6 @@
-use Rattle.std.proofs.Common.{ap, ◌∙◌, refl}
+use Rattle.asm_names.proofs.Common.{ap, ◌∙◌, refl, option_map, known}
 use Rattle.std.specs.Prelude.{bytes_eq}
-use Rattle.std.specs.Option.{option_map}
-use Rattle.asm_names.specs.Table.{scope, known}
+use Rattle.asm_names.specs.Table.{scope}
 use Rattle.asm_names.proofs.Tables.{found}
 use Rattle.asm_names.proofs.table.Table.find.Goals as goal
 

@@ -1,4 +1,4 @@
-use Rattle.std.proofs.Common.{refl}
+use Rattle.asm_names.proofs.Common.{refl}
 use Rattle.asm_names.specs.Table.{scope}
 use Rattle.asm_names.proofs.table.Table.new.Goals as goal
 

@@ -1,33 +1,17 @@
 use Rattle.std.proofs.Common.{◌≡◌, ◌+◌, not, [], map, None, sym, ap, ◌∙◌, arith, rules, w64}
-use Rattle.std.proofs.Math.ListN.{drop_of_length-le}
-use Rattle.std.proofs.lemmas.Bool.{eqb-true}
-use Rattle.std.proofs.lemmas.List.{nil_from_length}
-use Rattle.std.proofs.lemmas.List.Folds.{list_all-map}
-use Rattle.std.specs.Prelude.{slice_get}
-use Rattle.asm_names.specs.declared.resolved_term.ResolvedTerm.TheOpen.{ResolvedTerm-F}
+use Rattle.std.{proofs.{Math.ListN.{drop_of_length-le}, lemmas.{Bool.{eqb-true}, List.{nil_from_length}, List.Folds.{list_all-map}, Int.{to_z-of_z}}}, specs.Prelude.{slice_get}}
+use Rattle.asm_names.specs.{declared.resolved_term.ResolvedTerm.{ResolvedTerm-F}, ResolvedPlaces.{resolved_term_tokens}, Places.{parted}}
+use Rattle.asm_ranges.specs.{Faults.{first_fault, either, fault}, RangeFaults.{outside_faults}, Ranges.{truths, sum_fits}, Finding.{small_numbers, layer_tokens, shapes_in}}
+use Rattle.state_space.specs.{Codomains.{just, codomain_range}, Locations.{range_of}}
+use Rattle.asm_ranges.proofs.{Levels.{small_of, handed, whole}, InTurn.{all-at, parted-drop, left-from, args-next, filled, domains-some, domains-none}, Firsts.{first-append, first-none, either-none, either-both, sealed}, Intervals.{word-near, just-word, truths-word, bound-word, codomain-word}, Joined.{closes, pair-first, either-parts, near-below, min-is, max-is, hull-is, min-near, max-near, hull-near, min-word, max-word, hull-word, binary-near, binary-word, binary-is}}
+use Rattle.asm_names.proofs.{ResolvedLevels.{term_tokens_of}, Separated.{parted-in_parentheses}}
 use Rattle.asm_names.specs.declared.resolved_term.ResolvedTerm.TheVariants as terms
-use Rattle.asm_names.specs.declared.resolved_term.ResolvedTerm.TheViews.{roll-ResolvedTerm}
-use Rattle.asm_names.specs.ResolvedPlaces.{resolved_term_tokens}
-use Rattle.asm_ranges.specs.Faults.{first_fault, either, fault}
-use Rattle.asm_ranges.specs.RangeFaults.{outside_faults}
-use Rattle.asm_ranges.specs.Ranges.{truths, sum_fits}
-use Rattle.state_space.specs.Codomains.{just, codomain_range}
-use Rattle.state_space.specs.Locations.{range_of}
-use Rattle.std.proofs.lemmas.Int.{to_z-of_z}
-use Rattle.asm_ranges.specs.Finding.{small_numbers, layer_tokens, shapes_in}
-use Rattle.asm_ranges.proofs.TermLevels.{tokens_of, small_of, whole}
-use Rattle.asm_names.proofs.Separated.{parted-in_parentheses}
-use Rattle.asm_ranges.proofs.Lists.{all-at}
-use Rattle.asm_ranges.proofs.TermLists.{parted-drop, parted-next, args-next, filled, domains-some, domains-none}
-use Rattle.asm_ranges.proofs.Firsts.{first-append, first-none, either-none, either-both, sealed}
-use Rattle.asm_ranges.proofs.Words.{word-near, just-word, truths-word, bound-word, codomain-word}
-use Rattle.asm_ranges.proofs.Joined.{closes, pair-first, either-parts, near-below, min-is, max-is, hull-is, min-near, max-near, hull-near, min-word, max-word, hull-word, binary-near, binary-word, binary-is}
 use Rattle.asm_ranges.specs.declared.fault.RangeEnd.TheVariants as ends
 use Rattle.asm_ranges.proofs.reader.Reader.+term.Goals as goal
 
 pub args-term-next-requires : goal.args-term-next-requires
 args-term-next-requires t c =
-    let next = parted-next c.loop-index.index c.args.args.now c.index-args-index.result c.loop-index-test.true c.index-args-index.is in
+    let next = ap (λ ts. parted (map resolved_term_tokens ts)) (left-from c.loop-index.index c.args.args.now c.index-args-index.result c.loop-index-test.true c.index-args-index.is) in
     let less = parted-drop c.loop-index.index c.args.args.now in (
       omega (arith, next, less),
       (
@@ -41,7 +25,7 @@ args-term-next-requires t c =
 
 pub args-loop-index-preserved : goal.args-loop-index-preserved
 args-loop-index-preserved t c =
-    let next = parted-next c.loop-index.index c.args.args.now c.index-args-index.result c.loop-index-test.true c.index-args-index.is in
+    let next = ap (λ ts. parted (map resolved_term_tokens ts)) (left-from c.loop-index.index c.args.args.now c.index-args-index.result c.loop-index-test.true c.index-args-index.is) in
     let all = args-next c.loop-index.index c.args.args.now c.index-args-index.result c.loop-index-test.true c.index-args-index.is
     (shapes_in c.args.self.domains.now c.args.self.funs.now) c.args.self.row.now c.args.self.domains.now c.args.domains.now c.loop-index.found.after in
     let here = ap first_fault all ∙ first-append _ _ in
@@ -103,100 +87,76 @@ read-returns t c =
 
 pub term-leaf-requires-clause-word : goal.term-leaf-requires-clause-word
 term-leaf-requires-clause-word t c =
-    let e : roll-ResolvedTerm (ResolvedTerm-F.Number c.in-Number.value) ≡ c.args.term.now = terms.rolls-Number c.in-Number.value ∙ sym c.in-Number.is in
-    let small = small_of (ResolvedTerm-F.Number c.in-Number.value) c.args.term.now e in
+    let small = small_of (ResolvedTerm-F.Number c.in-Number.value) c.args.term.now (terms.rolls-Number c.in-Number.value ∙ sym c.in-Number.is) in
     let is : c.just.result ≡ just c.in-Number.value = c.just.ensures ∙ ap just (to_z-of_z w64 c.in-Number.value (search rules)) in
     rw is (just-word c.in-Number.value (sym small ∙ c.requires.small))
 
 pub term-leaf-requires-clause-room : goal.term-leaf-requires-clause-room
 term-leaf-requires-clause-room t c =
-    let e : roll-ResolvedTerm (ResolvedTerm-F.Number c.in-Number.value) ≡ c.args.term.now = terms.rolls-Number c.in-Number.value ∙ sym c.in-Number.is in
-    omega (arith, tokens_of (ResolvedTerm-F.Number c.in-Number.value) c.args.term.now e, c.requires.room)
+    omega (arith, term_tokens_of (ResolvedTerm-F.Number c.in-Number.value) c.args.term.now (terms.rolls-Number c.in-Number.value ∙ sym c.in-Number.is), c.requires.room)
 
 pub term-leaf-requires-in-Var-clause-word : goal.term-leaf-requires-in-Var-clause-word
 term-leaf-requires-in-Var-clause-word t c = rw c.bound.ensures (bound-word c.args.self.row.now c.in-Var.binder c.requires.ready.all_words)
 
 pub term-leaf-requires-in-Var-clause-room : goal.term-leaf-requires-in-Var-clause-room
 term-leaf-requires-in-Var-clause-room t c =
-    let e : roll-ResolvedTerm (ResolvedTerm-F.Var c.in-Var.binder) ≡ c.args.term.now = terms.rolls-Var c.in-Var.binder ∙ sym c.in-Var.is in
-    omega (arith, tokens_of (ResolvedTerm-F.Var c.in-Var.binder) c.args.term.now e, c.requires.room)
+    omega (arith, term_tokens_of (ResolvedTerm-F.Var c.in-Var.binder) c.args.term.now (terms.rolls-Var c.in-Var.binder ∙ sym c.in-Var.is), c.requires.room)
 
 pub term-returns-in-Number : goal.term-returns-in-Number
 term-returns-in-Number t c =
     let is : c.just.result ≡ just c.in-Number.value = c.just.ensures ∙ ap just (to_z-of_z w64 c.in-Number.value (search rules)) in
-    whole (ResolvedTerm-F.Number c.in-Number.value) c.args.term.now (terms.rolls-Number c.in-Number.value ∙ sym c.in-Number.is) (shapes_in c.args.self.domains.now c.args.self.funs.now) c.args.self.row.now c.args.need c.args.at c.leaf.result
-    (rw is at c.leaf.ensures)
+    whole (ResolvedTerm-F.Number c.in-Number.value) _ (terms.rolls-Number c.in-Number.value ∙ sym c.in-Number.is) _ _ _ _ _ (rw is at c.leaf.ensures)
 
 pub term-returns-in-Var : goal.term-returns-in-Var
-term-returns-in-Var t c =
-    whole (ResolvedTerm-F.Var c.in-Var.binder) c.args.term.now (terms.rolls-Var c.in-Var.binder ∙ sym c.in-Var.is) (shapes_in c.args.self.domains.now c.args.self.funs.now) c.args.self.row.now c.args.need c.args.at c.leaf-in-Var.result
-    (rw c.bound.ensures at c.leaf-in-Var.ensures)
+term-returns-in-Var t c = whole (ResolvedTerm-F.Var c.in-Var.binder) _ (terms.rolls-Var c.in-Var.binder ∙ sym c.in-Var.is) _ _ _ _ _ (rw c.bound.ensures at c.leaf-in-Var.ensures)
 
 pub term-read-requires : goal.term-read-requires
 term-read-requires t c =
-    let e : roll-ResolvedTerm (ResolvedTerm-F.Read c.in-Read.fun c.as_slice.result.now) ≡ c.args.term.now = cc (terms.rolls-Read c.in-Read.fun c.as_slice.result.now, c.as_slice.ensures, c.in-Read.is) in
-    let tokens = tokens_of (ResolvedTerm-F.Read c.in-Read.fun c.as_slice.result.now) c.args.term.now e in
-    (omega (arith, tokens, parted-in_parentheses (map resolved_term_tokens c.as_slice.result.now)), (c.requires.ready, (sym (small_of (ResolvedTerm-F.Read c.in-Read.fun c.as_slice.result.now) c.args.term.now e) ∙ c.requires.small, omega (arith, tokens, c.requires.room))))
+    let h = handed (ResolvedTerm-F.Read c.in-Read.fun c.as_slice.result.now) c.args.term.now (cc (terms.rolls-Read c.in-Read.fun c.as_slice.result.now, c.as_slice.ensures, c.in-Read.is)) c.args.at c.requires.small c.requires.room in
+    (omega (arith, h.0, parted-in_parentheses (map resolved_term_tokens c.as_slice.result.now)), (c.requires.ready, (h.1, h.2)))
 
 pub term-returns-in-Read : goal.term-returns-in-Read
-term-returns-in-Read t c =
-    let e : roll-ResolvedTerm (ResolvedTerm-F.Read c.in-Read.fun c.as_slice.result.now) ≡ c.args.term.now = cc (terms.rolls-Read c.in-Read.fun c.as_slice.result.now, c.as_slice.ensures, c.in-Read.is) in
-    whole (ResolvedTerm-F.Read c.in-Read.fun c.as_slice.result.now) c.args.term.now e (shapes_in c.args.self.domains.now c.args.self.funs.now) c.args.self.row.now c.args.need c.args.at c.read.result c.read.ensures
+term-returns-in-Read t c = whole (ResolvedTerm-F.Read c.in-Read.fun c.as_slice.result.now) c.args.term.now (cc (terms.rolls-Read c.in-Read.fun c.as_slice.result.now, c.as_slice.ensures, c.in-Read.is)) _ _ _ _ _ c.read.ensures
 
 pub term-binary-requires : goal.term-binary-requires
 term-binary-requires t c =
-    let e : roll-ResolvedTerm (ResolvedTerm-F.Binary c.in-Binary.op c.get.result.now c.get-in-Binary.result.now) ≡ c.args.term.now = cc (terms.rolls-Binary c.in-Binary.op c.get.result.now c.get-in-Binary.result.now, c.get.ensures, c.get-in-Binary.ensures, c.in-Binary.is) in
-    let tokens = tokens_of (ResolvedTerm-F.Binary c.in-Binary.op c.get.result.now c.get-in-Binary.result.now) c.args.term.now e in
-    (omega (arith, tokens), (c.requires.ready, (sym (small_of (ResolvedTerm-F.Binary c.in-Binary.op c.get.result.now c.get-in-Binary.result.now) c.args.term.now e) ∙ c.requires.small, omega (arith, tokens, c.requires.room))))
+    let h = handed (ResolvedTerm-F.Binary c.in-Binary.op c.get.result.now c.get-in-Binary.result.now) c.args.term.now (cc (terms.rolls-Binary c.in-Binary.op c.get.result.now c.get-in-Binary.result.now, c.get.ensures, c.get-in-Binary.ensures, c.in-Binary.is)) c.args.at c.requires.small c.requires.room in
+    (omega (arith, h.0), (c.requires.ready, (h.1, h.2)))
 
 pub term-returns-in-Binary : goal.term-returns-in-Binary
-term-returns-in-Binary t c =
-    let e : roll-ResolvedTerm (ResolvedTerm-F.Binary c.in-Binary.op c.get.result.now c.get-in-Binary.result.now) ≡ c.args.term.now = cc (terms.rolls-Binary c.in-Binary.op c.get.result.now c.get-in-Binary.result.now, c.get.ensures, c.get-in-Binary.ensures, c.in-Binary.is) in
-    whole (ResolvedTerm-F.Binary c.in-Binary.op c.get.result.now c.get-in-Binary.result.now) c.args.term.now e (shapes_in c.args.self.domains.now c.args.self.funs.now) c.args.self.row.now c.args.need c.args.at c.binary.result c.binary.ensures
+term-returns-in-Binary t c = whole (ResolvedTerm-F.Binary c.in-Binary.op c.get.result.now c.get-in-Binary.result.now) c.args.term.now (cc (terms.rolls-Binary c.in-Binary.op c.get.result.now c.get-in-Binary.result.now, c.get.ensures, c.get-in-Binary.ensures, c.in-Binary.is)) _ _ _ _ _ c.binary.ensures
 
 pub term-negation-requires : goal.term-negation-requires
 term-negation-requires t c =
-    let e : roll-ResolvedTerm (ResolvedTerm-F.Not c.get-in-Not.result.now) ≡ c.args.term.now = cc (terms.rolls-Not c.get-in-Not.result.now, c.get-in-Not.ensures, c.in-Not.is) in
-    let tokens = tokens_of (ResolvedTerm-F.Not c.get-in-Not.result.now) c.args.term.now e in
-    (omega (arith, tokens), (c.requires.ready, (sym (small_of (ResolvedTerm-F.Not c.get-in-Not.result.now) c.args.term.now e) ∙ c.requires.small, omega (arith, tokens, c.requires.room))))
+    let h = handed (ResolvedTerm-F.Not c.get-in-Not.result.now) c.args.term.now (cc (terms.rolls-Not c.get-in-Not.result.now, c.get-in-Not.ensures, c.in-Not.is)) c.args.at c.requires.small c.requires.room in
+    (omega (arith, h.0), (c.requires.ready, (h.1, h.2)))
 
 pub term-returns-in-Not : goal.term-returns-in-Not
-term-returns-in-Not t c =
-    let e : roll-ResolvedTerm (ResolvedTerm-F.Not c.get-in-Not.result.now) ≡ c.args.term.now = cc (terms.rolls-Not c.get-in-Not.result.now, c.get-in-Not.ensures, c.in-Not.is) in
-    whole (ResolvedTerm-F.Not c.get-in-Not.result.now) c.args.term.now e (shapes_in c.args.self.domains.now c.args.self.funs.now) c.args.self.row.now c.args.need c.args.at c.negation.result c.negation.ensures
+term-returns-in-Not t c = whole (ResolvedTerm-F.Not c.get-in-Not.result.now) c.args.term.now (cc (terms.rolls-Not c.get-in-Not.result.now, c.get-in-Not.ensures, c.in-Not.is)) _ _ _ _ _ c.negation.ensures
 
 pub term-minimum-requires : goal.term-minimum-requires
 term-minimum-requires t c =
-    let e : roll-ResolvedTerm (ResolvedTerm-F.Min c.get-in-Min.result.now c.get-in-Min-2.result.now) ≡ c.args.term.now = cc (terms.rolls-Min c.get-in-Min.result.now c.get-in-Min-2.result.now, c.get-in-Min.ensures, c.get-in-Min-2.ensures, c.in-Min.is) in
-    let tokens = tokens_of (ResolvedTerm-F.Min c.get-in-Min.result.now c.get-in-Min-2.result.now) c.args.term.now e in
-    (omega (arith, tokens), (c.requires.ready, (sym (small_of (ResolvedTerm-F.Min c.get-in-Min.result.now c.get-in-Min-2.result.now) c.args.term.now e) ∙ c.requires.small, omega (arith, tokens, c.requires.room))))
+    let h = handed (ResolvedTerm-F.Min c.get-in-Min.result.now c.get-in-Min-2.result.now) c.args.term.now (cc (terms.rolls-Min c.get-in-Min.result.now c.get-in-Min-2.result.now, c.get-in-Min.ensures, c.get-in-Min-2.ensures, c.in-Min.is)) c.args.at c.requires.small c.requires.room in
+    (omega (arith, h.0), (c.requires.ready, (h.1, h.2)))
 
 pub term-returns-in-Min : goal.term-returns-in-Min
-term-returns-in-Min t c =
-    let e : roll-ResolvedTerm (ResolvedTerm-F.Min c.get-in-Min.result.now c.get-in-Min-2.result.now) ≡ c.args.term.now = cc (terms.rolls-Min c.get-in-Min.result.now c.get-in-Min-2.result.now, c.get-in-Min.ensures, c.get-in-Min-2.ensures, c.in-Min.is) in
-    whole (ResolvedTerm-F.Min c.get-in-Min.result.now c.get-in-Min-2.result.now) c.args.term.now e (shapes_in c.args.self.domains.now c.args.self.funs.now) c.args.self.row.now c.args.need c.args.at c.minimum.result c.minimum.ensures
+term-returns-in-Min t c = whole (ResolvedTerm-F.Min c.get-in-Min.result.now c.get-in-Min-2.result.now) c.args.term.now (cc (terms.rolls-Min c.get-in-Min.result.now c.get-in-Min-2.result.now, c.get-in-Min.ensures, c.get-in-Min-2.ensures, c.in-Min.is)) _ _ _ _ _ c.minimum.ensures
 
 pub term-maximum-requires : goal.term-maximum-requires
 term-maximum-requires t c =
-    let e : roll-ResolvedTerm (ResolvedTerm-F.Max c.get-in-Max.result.now c.get-in-Max-2.result.now) ≡ c.args.term.now = cc (terms.rolls-Max c.get-in-Max.result.now c.get-in-Max-2.result.now, c.get-in-Max.ensures, c.get-in-Max-2.ensures, c.in-Max.is) in
-    let tokens = tokens_of (ResolvedTerm-F.Max c.get-in-Max.result.now c.get-in-Max-2.result.now) c.args.term.now e in
-    (omega (arith, tokens), (c.requires.ready, (sym (small_of (ResolvedTerm-F.Max c.get-in-Max.result.now c.get-in-Max-2.result.now) c.args.term.now e) ∙ c.requires.small, omega (arith, tokens, c.requires.room))))
+    let h = handed (ResolvedTerm-F.Max c.get-in-Max.result.now c.get-in-Max-2.result.now) c.args.term.now (cc (terms.rolls-Max c.get-in-Max.result.now c.get-in-Max-2.result.now, c.get-in-Max.ensures, c.get-in-Max-2.ensures, c.in-Max.is)) c.args.at c.requires.small c.requires.room in
+    (omega (arith, h.0), (c.requires.ready, (h.1, h.2)))
 
 pub term-returns-in-Max : goal.term-returns-in-Max
-term-returns-in-Max t c =
-    let e : roll-ResolvedTerm (ResolvedTerm-F.Max c.get-in-Max.result.now c.get-in-Max-2.result.now) ≡ c.args.term.now = cc (terms.rolls-Max c.get-in-Max.result.now c.get-in-Max-2.result.now, c.get-in-Max.ensures, c.get-in-Max-2.ensures, c.in-Max.is) in
-    whole (ResolvedTerm-F.Max c.get-in-Max.result.now c.get-in-Max-2.result.now) c.args.term.now e (shapes_in c.args.self.domains.now c.args.self.funs.now) c.args.self.row.now c.args.need c.args.at c.maximum.result c.maximum.ensures
+term-returns-in-Max t c = whole (ResolvedTerm-F.Max c.get-in-Max.result.now c.get-in-Max-2.result.now) c.args.term.now (cc (terms.rolls-Max c.get-in-Max.result.now c.get-in-Max-2.result.now, c.get-in-Max.ensures, c.get-in-Max-2.ensures, c.in-Max.is)) _ _ _ _ _ c.maximum.ensures
 
 pub term-conditional-requires : goal.term-conditional-requires
 term-conditional-requires t c =
-    let e : roll-ResolvedTerm (ResolvedTerm-F.Cond c.get-in-Cond.result.now c.get-in-Cond-2.result.now c.get-in-Cond-3.result.now) ≡ c.args.term.now = cc (terms.rolls-Cond c.get-in-Cond.result.now c.get-in-Cond-2.result.now c.get-in-Cond-3.result.now, c.get-in-Cond.ensures, c.get-in-Cond-2.ensures, c.get-in-Cond-3.ensures, c.in-Cond.is) in
-    let tokens = tokens_of (ResolvedTerm-F.Cond c.get-in-Cond.result.now c.get-in-Cond-2.result.now c.get-in-Cond-3.result.now) c.args.term.now e in
-    (omega (arith, tokens), (c.requires.ready, (sym (small_of (ResolvedTerm-F.Cond c.get-in-Cond.result.now c.get-in-Cond-2.result.now c.get-in-Cond-3.result.now) c.args.term.now e) ∙ c.requires.small, omega (arith, tokens, c.requires.room))))
+    let h = handed (ResolvedTerm-F.Cond c.get-in-Cond.result.now c.get-in-Cond-2.result.now c.get-in-Cond-3.result.now) c.args.term.now (cc (terms.rolls-Cond c.get-in-Cond.result.now c.get-in-Cond-2.result.now c.get-in-Cond-3.result.now, c.get-in-Cond.ensures, c.get-in-Cond-2.ensures, c.get-in-Cond-3.ensures, c.in-Cond.is)) c.args.at c.requires.small c.requires.room in
+    (omega (arith, h.0), (c.requires.ready, (h.1, h.2)))
 
 pub term-returns-in-Cond : goal.term-returns-in-Cond
-term-returns-in-Cond t c =
-    let e : roll-ResolvedTerm (ResolvedTerm-F.Cond c.get-in-Cond.result.now c.get-in-Cond-2.result.now c.get-in-Cond-3.result.now) ≡ c.args.term.now = cc (terms.rolls-Cond c.get-in-Cond.result.now c.get-in-Cond-2.result.now c.get-in-Cond-3.result.now, c.get-in-Cond.ensures, c.get-in-Cond-2.ensures, c.get-in-Cond-3.ensures, c.in-Cond.is) in
-    whole (ResolvedTerm-F.Cond c.get-in-Cond.result.now c.get-in-Cond-2.result.now c.get-in-Cond-3.result.now) c.args.term.now e (shapes_in c.args.self.domains.now c.args.self.funs.now) c.args.self.row.now c.args.need c.args.at c.conditional.result c.conditional.ensures
+term-returns-in-Cond t c = whole (ResolvedTerm-F.Cond c.get-in-Cond.result.now c.get-in-Cond-2.result.now c.get-in-Cond-3.result.now) c.args.term.now (cc (terms.rolls-Cond c.get-in-Cond.result.now c.get-in-Cond-2.result.now c.get-in-Cond-3.result.now, c.get-in-Cond.ensures, c.get-in-Cond-2.ensures, c.get-in-Cond-3.ensures, c.in-Cond.is)) _ _ _ _ _ c.conditional.ensures
 
 pub minimum-returns : goal.minimum-returns
 minimum-returns t c =

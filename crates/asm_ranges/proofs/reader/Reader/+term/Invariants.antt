@@ -1,10 +1,7 @@
 use Rattle.std.proofs.Common.{◌≡◌, ◌+◌, ◌*◌, map, drop}
-use Rattle.asm_names.specs.Places.{parted}
-use Rattle.asm_names.specs.ResolvedPlaces.{resolved_term_tokens}
+use Rattle.asm_names.specs.{Places.{parted}, ResolvedPlaces.{resolved_term_tokens}}
 use Rattle.state_space.specs.Locations.{range_of}
-use Rattle.asm_ranges.specs.Faults.{first_fault, either}
-use Rattle.asm_ranges.specs.RangeFaults.{args_faults, faulty_term}
-use Rattle.asm_ranges.specs.Finding.{shapes_in}
+use Rattle.asm_ranges.specs.{Faults.{first_fault, either}, RangeFaults.{args_faults, faulty_term}, Finding.{shapes_in}}
 use Rattle.asm_ranges.proofs.reader.Reader.+term.Given as goal
 
 abbrev pub decreases-term : goal.decreases-term

@@ -1,10 +1,7 @@
 use Rattle.std.proofs.Common.{◌≡◌, ◌+◌, ◌*◌, map, drop}
 use Rattle.std.specs.List.{AllByRecursion}
-use Rattle.asm_names.specs.Places.{led}
-use Rattle.asm_names.specs.ResolvedPlaces.{resolved_rule_tokens, led_if}
-use Rattle.asm_ranges.specs.RangeFaults.{each_rule_faults, after_each, intervals_after}
-use Rattle.asm_ranges.specs.Finding.{IsWord, shapes_in}
-use Rattle.asm_ranges.specs.FindingRules.{faulty_rule}
+use Rattle.asm_names.specs.{Places.{led}, ResolvedPlaces.{resolved_rule_tokens, led_if}}
+use Rattle.asm_ranges.specs.{RangeFaults.{each_rule_faults, after_each, intervals_after}, Finding.{IsWord, shapes_in}, FindingRules.{faulty_rule}}
 use Rattle.asm_ranges.proofs.walk.Walk.+rule.Given as goal
 
 abbrev pub decreases-rule : goal.decreases-rule

@@ -1,0 +1,16 @@
+-- What a program needs, function by function.
+use Rattle.std.specs.Prelude.{ℕ, ◌*◌}
+use Rattle.asm_tree.specs.declared.decl.Kind.{Kind}
+use Rattle.asm_tree.specs.declared.decl.Kind.TheVariants as kinds
+use Rattle.state_space.specs.declared.shape.Shape.{Shape}
+use Rattle.state_space.specs.Sizes.{padded_count}
+
+abbrev pub bytes_of : Kind → ℕ
+bytes_of kinds.Controlled = 12
+bytes_of kinds.Output = 12
+bytes_of kinds.Input = 4
+bytes_of kinds.Static = 0
+
+-- how much the locations of a function need
+abbrev pub own_need : Shape → ℕ
+own_need shape = bytes_of shape.kind * padded_count shape.args
