@@ -1,5 +1,6 @@
 -- A guard that the text doesn't have is `(0 = 0)`, and a rule behind `else` that it doesn't have is `skip`.
-use Rattle.asm_names.proofs.Common.{◌≡◌, pos, true, false, refl, sym, ap, ◌∙◌, and_parts, eqb-true, ResolvedTerm, ResolvedTerm-F, roll-ResolvedTerm, out-ResolvedTerm, roll-out-ResolvedTerm, ResolvedRule, ResolvedRule-F, roll-ResolvedRule, out-ResolvedRule, roll-out-ResolvedRule, always, is_zero_by, is_always_by, guard_stands, is_skip_by, else_stands}
+use Rattle.asm_names.proofs.Common.{◌≡◌, pos, true, false, refl, sym, ap, ◌∙◌, and_parts, eqb-true, ResolvedTerm, ResolvedTerm-F, roll-ResolvedTerm, out-ResolvedTerm, roll-out-ResolvedTerm}
+use Rattle.asm_names.proofs.Common.{ResolvedRule, ResolvedRule-F, roll-ResolvedRule, out-ResolvedRule, roll-out-ResolvedRule, always, is_zero_by, is_always_by, guard_stands, is_skip_by, else_stands}
 use Rattle.asm_tree.specs.declared.term.Op.TheVariants as ops
 use Rattle.asm_names.specs.declared.resolved_term.ResolvedTerm.TheVariants as resolved_terms
 use Rattle.asm_names.specs.declared.resolved_rule.ResolvedRule.TheVariants as resolved_rules

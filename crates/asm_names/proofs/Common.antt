@@ -1,5 +1,7 @@
 -- The names that most proofs of this crate use, passed on.
-pub use Rattle.std.proofs.Common.{◌≡◌, refl, arith, ◌+◌, ℕ, ◌∙◌, Some, ap, List, map, sym, [], ◌∷◌, Option, true, ◌++◌, length, drop, ◌<◌, ◌≤◌, Bool, false, None, ◌*◌, suc, pos, is_some, take, not, nat_eq, append_assoc, subst, cond, zero, inr, nat_lt, ◌||◌, inl, ℤ, negsuc, ◌-ℤ◌, ◌≤ℤ◌, int_lt, nat_abs, bytes_eq, Result, Ok, Err, ◌≢◌, get_or, min, ◌&&◌, is_none, if◌then◌else◌, int_le, nat_le, option_and_then, ◌^◌, ◌-◌, MatchOption, Vec, Global}
+pub use Rattle.std.proofs.Common.{◌≡◌, refl, arith, ◌+◌, ℕ, ◌∙◌, Some, ap, List, map, sym, [], ◌∷◌, Option, true, ◌++◌, length, drop, ◌<◌, ◌≤◌, Bool, false, None, ◌*◌, suc, pos, is_some, take, not}
+pub use Rattle.std.proofs.Common.{nat_eq, append_assoc, subst, cond, zero, inr, nat_lt, ◌||◌, inl, ℤ, negsuc, ◌-ℤ◌, ◌≤ℤ◌, int_lt, nat_abs, bytes_eq, Result, Ok, Err, ◌≢◌, get_or, min, ◌&&◌, is_none}
+pub use Rattle.std.proofs.Common.{if◌then◌else◌, int_le, nat_le, option_and_then, ◌^◌, ◌-◌, MatchOption, Vec, Global}
 pub use Rattle.std.proofs.lemmas.Bool.{and_parts, leb-true, eq-eqb, ne_eqb, eqb-true, not-false, and_from, or_left, or_right, or_from, lt-ltb, not_from_false, le-ltb, or_parts, ltb-false, le-leb, leb-false}
 pub use Rattle.std.proofs.lemmas.Int.{ints}
 pub use Rattle.std.proofs.lemmas.List.{length-map, length-append, drop_more}
@@ -23,7 +25,8 @@ pub use Rattle.asm_names.specs.Judging.{part, layer_tokens, JudgesTerm, JudgesLa
 pub use Rattle.asm_names.specs.JudgingRules.{faulty, rule_layer_tokens, made, rule_layer_binders, JudgesRule, JudgesRuleLayer}
 pub use Rattle.asm_names.specs.Meanings.{Scope, meaning_of, Meaning, sort_of_domain, Function, Enumerator, size_of_domain, number_of, Binder, domains_in, Domain, arity_of, argument_sorts, is_domain, is_function, functions_in, sort_of as sort_of_name}
 pub use Rattle.asm_names.specs.Order.{Spans, Ascending, Before}
-pub use Rattle.asm_names.specs.Places.{term_tokens, rule_tokens, rule_binders, in_parentheses, led, consts_tokens, parted, decl_tokens, with_tokens, decls_tokens, else_tokens, table_tokens, rule_tokens_by, rule_binders_by, term_tokens_by, names_tokens, const_tokens, legal_tokens}
+pub use Rattle.asm_names.specs.Places.{term_tokens, rule_tokens, rule_binders, in_parentheses, led, consts_tokens, parted, decl_tokens, with_tokens, decls_tokens, else_tokens, table_tokens}
+pub use Rattle.asm_names.specs.Places.{rule_tokens_by, rule_binders_by, term_tokens_by, names_tokens, const_tokens, legal_tokens}
 pub use Rattle.asm_names.specs.Programs.{names_of, program_faults, resolved_domains, resolved_funs, resolved_const, legal_faults, index_of}
 pub use Rattle.asm_names.specs.ResolvedPlaces.{resolved_term_tokens, resolved_rule_binders, resolved_rule_tokens, resolved_rule_tokens_by, resolved_rule_binders_by, resolved_term_tokens_by, led_if}
 pub use Rattle.asm_names.specs.RuleFaults.{each_rule_faults, rule_faults, rule_faults_by, RulePart as Faulty, is_fixed, target_faults, target_need, target_sorts, domain_faults, guard_faults, bound as bound_in, RulePart, parts, bound, declared_faults}
@@ -32,7 +35,9 @@ pub use Rattle.asm_names.specs.Sorts.{same_as, refuses, op_sort, left_need, righ
 pub use Rattle.asm_names.specs.Table.{scope, known}
 pub use Rattle.asm_names.specs.TermFaults.{term_faults, each_faults, term_sort, Part, term_faults_by, count_faults, term_sort_by}
 pub use Rattle.asm_names.specs.Terms.{resolved_term, resolved_term_by, resolved_name}
-pub use Rattle.asm_names.specs.WellFormed.{truth, Bound, sort_of, Sort as Form, thing, rule_named, in_scope, is_truth, is_thing, read_sort, is_zero_by, is_always_by, guard_stands, is_skip_by, else_stands, named_by, size_of, sort_by, is_changing, new_binder, RulePart as Named, each_named, product, IsDomain, table_length, IsFun, IsWellFormed, size_in, binary_sort}
+pub use Rattle.asm_names.specs.WellFormed.{truth, Bound, sort_of, Sort as Form, thing, rule_named, in_scope, is_truth, is_thing, read_sort, is_zero_by, is_always_by, guard_stands, is_skip_by}
+pub use Rattle.asm_names.specs.WellFormed.{else_stands, named_by, size_of, sort_by, is_changing, new_binder, RulePart as Named, each_named, product, IsDomain, table_length, IsFun, IsWellFormed}
+pub use Rattle.asm_names.specs.WellFormed.{size_in, binary_sort}
 pub use Rattle.asm_names.specs.declared.fault.NameEnd.{NameEnd}
 pub use Rattle.asm_names.specs.declared.fault.NameFault.{NameFault}
 pub use Rattle.asm_names.specs.declared.program.Domain.{Domain as Values}

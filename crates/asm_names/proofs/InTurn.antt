@@ -1,5 +1,6 @@
 -- Lists, one element after another.
-use Rattle.asm_names.proofs.Common.{◌≡◌, ◌≢◌, ℕ, ◌+◌, ◌<◌, ◌≤◌, List, [], ◌∷◌, ◌++◌, drop, get_or, length, Option, Some, None, refl, ap, sym, ◌∙◌, arith, option_map, drop_more, Const, Term, Rule, Rule-F, NameEnd, term_tokens, rule_tokens, else_tokens, consts_tokens, Fault, first_end, rule_layer_tokens}
+use Rattle.asm_names.proofs.Common.{◌≡◌, ◌≢◌, ℕ, ◌+◌, ◌<◌, ◌≤◌, List, [], ◌∷◌, ◌++◌, drop, get_or, length, Option, Some, None, refl, ap, sym, ◌∙◌, arith, option_map, drop_more, Const, Term, Rule}
+use Rattle.asm_names.proofs.Common.{Rule-F, NameEnd, term_tokens, rule_tokens, else_tokens, consts_tokens, Fault, first_end, rule_layer_tokens}
 use Rattle.asm_names.proofs.Firsts.{stopped}
 use Rattle.asm_names.specs.declared.fault.NameEnd.TheVariants as ends
 

@@ -1,5 +1,7 @@
 -- Names whose meanings are declared: what their numbers name is there, and is of their sort.
-use Rattle.asm_names.proofs.Common.{◌≡◌, ℕ, ◌<◌, Bool, true, false, cond, List, [], ◌∷◌, ◌++◌, length, Option, Some, None, is_some, bytes_eq, refl, ap, sym, ◌∙◌, slice_get, IfSome, AllByRecursion, lookup, not-false, slice_get_within, Kind, NameFault, Values, Fun, Sort, Need, Fault, fault, same_as, refuses, Meaning, Domain, Enumerator, Function, Binder, Scope, meaning_of, number_of, sort_of_domain, size_of_domain, domain_faults, Form, truth, thing, Bound, in_scope, size_in, size_of}
+use Rattle.asm_names.proofs.Common.{◌≡◌, ℕ, ◌<◌, Bool, true, false, cond, List, [], ◌∷◌, ◌++◌, length, Option, Some, None, is_some, bytes_eq, refl, ap, sym, ◌∙◌, slice_get, IfSome, AllByRecursion}
+use Rattle.asm_names.proofs.Common.{lookup, not-false, slice_get_within, Kind, NameFault, Values, Fun, Sort, Need, Fault, fault, same_as, refuses, Meaning, Domain, Enumerator, Function, Binder, Scope}
+use Rattle.asm_names.proofs.Common.{meaning_of, number_of, sort_of_domain, size_of_domain, domain_faults, Form, truth, thing, Bound, in_scope, size_in, size_of}
 use Rattle.asm_names.specs.declared.fault.NameFault.TheVariants as causes
 use Rattle.asm_names.specs.declared.sort.Sort.TheVariants as sorts
 use Rattle.asm_names.specs.declared.sort.Need.TheVariants as needs

@@ -1,5 +1,6 @@
 -- One level of each definition on terms.
-use Rattle.asm_names.proofs.Common.{◌≡◌, ℕ, List, Option, Some, Result, Ok, Err, sym, ap, ◌∙◌, Op, Term, Term-F, roll-Term, map-Term, fold-roll-Term, para-roll-Term, NameEnd, Sort, Need, ResolvedTerm, op_sort, Scope, meaning_of, term_tokens_by, Fault, Part, term_sort_by, term_faults_by, resolved_term_by, part, layer_tokens, JudgesTerm, JudgesLayer}
+use Rattle.asm_names.proofs.Common.{◌≡◌, ℕ, List, Option, Some, Result, Ok, Err, sym, ap, ◌∙◌, Op, Term, Term-F, roll-Term, map-Term, fold-roll-Term, para-roll-Term, NameEnd, Sort, Need, ResolvedTerm}
+use Rattle.asm_names.proofs.Common.{op_sort, Scope, meaning_of, term_tokens_by, Fault, Part, term_sort_by, term_faults_by, resolved_term_by, part, layer_tokens, JudgesTerm, JudgesLayer}
 use Rattle.asm_names.specs.Meanings.{sort_of}
 use Rattle.asm_names.specs.Places.{term_tokens}
 use Rattle.asm_names.specs.TermFaults.{term_sort, term_faults}

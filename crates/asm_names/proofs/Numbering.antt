@@ -1,5 +1,7 @@
 -- Domains and functions are numbered in order, and binders are tokens.
-use Rattle.asm_names.proofs.Common.{◌≡◌, ℕ, suc, ◌+◌, ◌≤◌, List, [], ◌∷◌, ◌++◌, map, length, Some, None, refl, ap, ◌∙◌, arith, append_assoc, sum, count_by, length-append, sum_by-cons, sum_by-append, Decl, Rule, Rule-F, Meaning, Domain, Enumerator, Scope, is_domain, is_function, domains_in, functions_in, decl_tokens, decls_tokens, rule_tokens, rule_binders, led, declared, items_from, decl_faults, decls_faults, names_after, resolved_domains, resolved_funs, scope, rule_layer_tokens, rule_layer_binders}
+use Rattle.asm_names.proofs.Common.{◌≡◌, ℕ, suc, ◌+◌, ◌≤◌, List, [], ◌∷◌, ◌++◌, map, length, Some, None, refl, ap, ◌∙◌, arith, append_assoc, sum, count_by, length-append, sum_by-cons, sum_by-append}
+use Rattle.asm_names.proofs.Common.{Decl, Rule, Rule-F, Meaning, Domain, Enumerator, Scope, is_domain, is_function, domains_in, functions_in, decl_tokens, decls_tokens, rule_tokens, rule_binders, led}
+use Rattle.asm_names.proofs.Common.{declared, items_from, decl_faults, decls_faults, names_after, resolved_domains, resolved_funs, scope, rule_layer_tokens, rule_layer_binders}
 use Rattle.std.specs.Prelude.{cond, Bool, false}
 use Rattle.asm_names.specs.declared.declarations.Declarations.{Declarations}
 use Rattle.asm_names.specs.Declares.{IsNumbered, Declares}

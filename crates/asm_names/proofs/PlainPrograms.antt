@@ -1,5 +1,9 @@
 -- A plain program has no fault of its names.
-use Rattle.asm_names.proofs.Common.{◌≡◌, ℕ, ◌+◌, ℤ, pos, negsuc, ◌-ℤ◌, ◌≤ℤ◌, Bool, true, false, cond, is_none, is_some, if◌then◌else◌, int_lt, int_le, nat_abs, nat_lt, nat_le, ◌||◌, List, [], ◌∷◌, ◌++◌, length, Option, Some, None, option_and_then, bytes_eq, refl, ap, sym, ◌∙◌, arith, lookup, and_parts, leb-true, le-ltb, ne_eqb, ints, Parts, is_empty, Const, Decl, Term, Term-F, roll-Term, out-Term, roll-out-Term, Rule, Rule-F, out-Rule, roll-out-Rule, map-Rule, NameFault, Meaning, Function, Scope, meaning_of, sort_of_domain, decl_tokens, fault, declared, range_size, is_far, decl_faults, decls_faults, names_after, term_faults, RulePart, rule_faults, rule_faults_by, faulty, names_of, program_faults}
+use Rattle.asm_names.proofs.Common.{◌≡◌, ℕ, ◌+◌, ℤ, pos, negsuc, ◌-ℤ◌, ◌≤ℤ◌, Bool, true, false, cond, is_none, is_some, if◌then◌else◌, int_lt, int_le, nat_abs, nat_lt, nat_le, ◌||◌, List, [], ◌∷◌}
+use Rattle.asm_names.proofs.Common.{◌++◌, length, Option, Some, None, option_and_then, bytes_eq, refl, ap, sym, ◌∙◌, arith, lookup, and_parts, leb-true, le-ltb, ne_eqb, ints, Parts, is_empty, Const}
+use Rattle.asm_names.proofs.Common.{Decl, Term, Term-F, roll-Term, out-Term, roll-out-Term, Rule, Rule-F, out-Rule, roll-out-Rule, map-Rule, NameFault, Meaning, Function, Scope, meaning_of}
+use Rattle.asm_names.proofs.Common.{sort_of_domain, decl_tokens, fault, declared, range_size, is_far, decl_faults, decls_faults, names_after, term_faults, RulePart, rule_faults, rule_faults_by}
+use Rattle.asm_names.proofs.Common.{faulty, names_of, program_faults}
 use Rattle.std.proofs.Common.{option_map}
 use Rattle.plain_program.specs.Plain.{PlainProgram}
 use Rattle.plain_program.specs.Reading.{all_declared, number_in, number_of, plain_rule, plain_of}

@@ -1,5 +1,9 @@
 -- The faults of a program are in order.
-use Rattle.asm_names.proofs.Common.{◌≡◌, ℕ, ◌+◌, ◌*◌, ◌<◌, Bool, true, false, not, is_some, nat_eq, nat_lt, ◌||◌, inr, List, [], ◌∷◌, ◌++◌, map, length, Option, Some, None, refl, arith, append_assoc, Const, Decl, Kind, Parts, Term, NameFault, Need, same_as, refuses, Meaning, Domain, Enumerator, Scope, meaning_of, sort_of_domain, size_of_domain, domains_in, names_tokens, const_tokens, consts_tokens, table_tokens, decl_tokens, decls_tokens, legal_tokens, Fault, fault, code_of, Spans, Ascending, declared, times_sizes, table_faults, item_faults, consts_faults, constants_of, items_faults, domains_faults, range_size, is_far, decl_faults, decls_faults, declared_faults, names_of, legal_faults, program_faults}
+use Rattle.asm_names.proofs.Common.{◌≡◌, ℕ, ◌+◌, ◌*◌, ◌<◌, Bool, true, false, not, is_some, nat_eq, nat_lt, ◌||◌, inr, List, [], ◌∷◌, ◌++◌, map, length, Option, Some, None, refl, arith, append_assoc}
+use Rattle.asm_names.proofs.Common.{Const, Decl, Kind, Parts, Term, NameFault, Need, same_as, refuses, Meaning, Domain, Enumerator, Scope, meaning_of, sort_of_domain, size_of_domain, domains_in}
+use Rattle.asm_names.proofs.Common.{names_tokens, const_tokens, consts_tokens, table_tokens, decl_tokens, decls_tokens, legal_tokens, Fault, fault, code_of, Spans, Ascending, declared, times_sizes}
+use Rattle.asm_names.proofs.Common.{table_faults, item_faults, consts_faults, constants_of, items_faults, domains_faults, range_size, is_far, decl_faults, decls_faults, declared_faults, names_of}
+use Rattle.asm_names.proofs.Common.{legal_faults, program_faults}
 use Rattle.std.specs.Prelude.{int_lt}
 use Rattle.asm_names.proofs.Spans.{none, wider, single, double, seq, term_spans}
 use Rattle.asm_names.proofs.RuleSpans.{rule_spans}

@@ -1,5 +1,7 @@
 -- One level of each definition on resolved terms and rules.
-use Rattle.asm_names.proofs.Common.{◌≡◌, ℕ, Bool, List, Option, sym, ap, ◌∙◌, Fun, Resolved, ResolvedTerm, ResolvedTerm-F, roll-ResolvedTerm, out-ResolvedTerm, out-roll-ResolvedTerm, map-ResolvedTerm, fold-roll-ResolvedTerm, ResolvedRule, ResolvedRule-F, roll-ResolvedRule, out-ResolvedRule, out-roll-ResolvedRule, map-ResolvedRule, fold-roll-ResolvedRule, para-roll-ResolvedRule, resolved_term_tokens_by, resolved_rule_tokens_by, resolved_rule_binders_by, Bound, sort_by, named_by}
+use Rattle.asm_names.proofs.Common.{◌≡◌, ℕ, Bool, List, Option, sym, ap, ◌∙◌, Fun, Resolved, ResolvedTerm, ResolvedTerm-F, roll-ResolvedTerm, out-ResolvedTerm, out-roll-ResolvedTerm, map-ResolvedTerm}
+use Rattle.asm_names.proofs.Common.{fold-roll-ResolvedTerm, ResolvedRule, ResolvedRule-F, roll-ResolvedRule, out-ResolvedRule, out-roll-ResolvedRule, map-ResolvedRule, fold-roll-ResolvedRule}
+use Rattle.asm_names.proofs.Common.{para-roll-ResolvedRule, resolved_term_tokens_by, resolved_rule_tokens_by, resolved_rule_binders_by, Bound, sort_by, named_by}
 use Rattle.asm_names.specs.ResolvedPlaces.{resolved_term_tokens, resolved_rule_tokens, resolved_rule_binders}
 use Rattle.asm_names.specs.WellFormed.{Sort, sort_of, RulePart, rule_named}
 

@@ -1,5 +1,7 @@
 -- One level of each definition on rules.
-use Rattle.asm_names.proofs.Common.{◌≡◌, ℕ, zero, suc, ◌+◌, ◌^◌, ◌<◌, ◌≤◌, List, Result, Ok, Err, sym, ap, ◌∙◌, arith, Rule, Rule-F, roll-Rule, out-Rule, roll-out-Rule, map-Rule, fold-roll-Rule, para-roll-Rule, NameEnd, ResolvedRule, Scope, scope, rule_tokens_by, rule_binders_by, Fault, Faulty, rule_faults_by, Made, resolved_rule_by, faulty, made, rule_layer_tokens, rule_layer_binders, JudgesRule, JudgesRuleLayer}
+use Rattle.asm_names.proofs.Common.{◌≡◌, ℕ, zero, suc, ◌+◌, ◌^◌, ◌<◌, ◌≤◌, List, Result, Ok, Err, sym, ap, ◌∙◌, arith, Rule, Rule-F, roll-Rule, out-Rule, roll-out-Rule, map-Rule, fold-roll-Rule}
+use Rattle.asm_names.proofs.Common.{para-roll-Rule, NameEnd, ResolvedRule, Scope, scope, rule_tokens_by, rule_binders_by, Fault, Faulty, rule_faults_by, Made, resolved_rule_by, faulty, made}
+use Rattle.asm_names.proofs.Common.{rule_layer_tokens, rule_layer_binders, JudgesRule, JudgesRuleLayer}
 use Rattle.asm_names.specs.declared.rule.Walk.{Walk}
 use Rattle.asm_names.specs.Places.{rule_tokens, rule_binders}
 use Rattle.asm_names.specs.RuleFaults.{rule_faults}

@@ -1,5 +1,7 @@
 -- The faults of a rule are in order.
-use Rattle.asm_names.proofs.Common.{◌≡◌, ℕ, suc, ◌+◌, ◌≤◌, true, not, is_some, nat_eq, List, [], ◌∷◌, map, length, Option, Some, None, arith, Term, Rule, Rule-F, map-Rule, Sort, Meaning, Function, Scope, meaning_of, sort_of_domain, term_tokens, rule_tokens, rule_binders, in_parentheses, led, with_tokens, Spans, each_faults, term_sort, Faulty, parts, is_fixed, target_faults, target_need, target_sorts, bound, guard_faults, each_rule_faults, rule_faults, rule_faults_by, faulty, rule_layer_tokens}
+use Rattle.asm_names.proofs.Common.{◌≡◌, ℕ, suc, ◌+◌, ◌≤◌, true, not, is_some, nat_eq, List, [], ◌∷◌, map, length, Option, Some, None, arith, Term, Rule, Rule-F, map-Rule, Sort, Meaning, Function}
+use Rattle.asm_names.proofs.Common.{Scope, meaning_of, sort_of_domain, term_tokens, rule_tokens, rule_binders, in_parentheses, led, with_tokens, Spans, each_faults, term_sort, Faulty, parts, is_fixed}
+use Rattle.asm_names.proofs.Common.{target_faults, target_need, target_sorts, bound, guard_faults, each_rule_faults, rule_faults, rule_faults_by, faulty, rule_layer_tokens}
 use Rattle.asm_names.proofs.RuleLevels.{tokens_of, faults_at, by_tokens}
 use Rattle.asm_names.proofs.Spans.{none, wider, single, double, seq, arguments, term_spans}
 use Rattle.asm_names.specs.declared.fault.NameFault.TheVariants as causes

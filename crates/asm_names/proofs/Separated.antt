@@ -1,5 +1,6 @@
 -- Terms in a list, one after another.
-use Rattle.asm_names.proofs.Common.{◌≡◌, ℕ, ◌+◌, ◌<◌, ◌≤◌, List, [], ◌∷◌, ◌++◌, map, drop, get_or, length, Some, refl, arith, slice_get, drop_more, slice_get-get_or, Term, Sort, Need, same_as, Scope, term_faults, each_faults, term_tokens, parted, in_parentheses, part}
+use Rattle.asm_names.proofs.Common.{◌≡◌, ℕ, ◌+◌, ◌<◌, ◌≤◌, List, [], ◌∷◌, ◌++◌, map, drop, get_or, length, Some, refl, arith, slice_get, drop_more, slice_get-get_or, Term, Sort, Need, same_as, Scope}
+use Rattle.asm_names.proofs.Common.{term_faults, each_faults, term_tokens, parted, in_parentheses, part}
 use Rattle.asm_names.proofs.InTurn.{drop-next}
 use Rattle.asm_names.specs.declared.sort.Sort.TheVariants as sorts
 

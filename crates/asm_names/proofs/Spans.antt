@@ -1,5 +1,8 @@
 -- Faults of parts in order are in order.
-use Rattle.asm_names.proofs.Common.{ℕ, zero, suc, ◌+◌, ◌<◌, ◌≤◌, Bool, true, false, not, nat_eq, inl, inr, List, [], ◌∷◌, ◌++◌, map, length, Option, Some, None, refl, arith, append_assoc, AllByRecursion, Term, Term-F, out-Term, roll-out-Term, map-Term, NameFault, Sort, Need, same_as, refuses, op_sort, left_need, right_need, Scope, meaning_of, arity_of, argument_sorts, term_tokens, parted, in_parentheses, Fault, fault, code_of, Before, Ascending, Spans, Part, count_faults, each_faults, term_sort, term_faults, term_faults_by, part, layer_tokens}
+use Rattle.asm_names.proofs.Common.{ℕ, zero, suc, ◌+◌, ◌<◌, ◌≤◌, Bool, true, false, not, nat_eq, inl, inr, List, [], ◌∷◌, ◌++◌, map, length, Option, Some, None, refl, arith, append_assoc}
+use Rattle.asm_names.proofs.Common.{AllByRecursion, Term, Term-F, out-Term, roll-out-Term, map-Term, NameFault, Sort, Need, same_as, refuses, op_sort, left_need, right_need, Scope, meaning_of}
+use Rattle.asm_names.proofs.Common.{arity_of, argument_sorts, term_tokens, parted, in_parentheses, Fault, fault, code_of, Before, Ascending, Spans, Part, count_faults, each_faults, term_sort}
+use Rattle.asm_names.proofs.Common.{term_faults, term_faults_by, part, layer_tokens}
 use Rattle.asm_names.specs.Meanings.{sort_of}
 use Rattle.asm_names.proofs.Levels.{tokens_of, faults_at}
 use Rattle.asm_names.proofs.Known.{all-append}

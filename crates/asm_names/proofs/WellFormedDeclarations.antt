@@ -1,5 +1,9 @@
 -- Declarations without faults are well formed in numbers, and what their names stand for is there.
-use Rattle.asm_names.proofs.Common.{◌≡◌, ℕ, ◌+◌, ◌*◌, ◌<◌, ◌≤◌, ℤ, pos, negsuc, nat_abs, ◌-ℤ◌, ◌≤ℤ◌, int_lt, true, false, cond, not, ◌||◌, nat_lt, List, [], ◌∷◌, ◌++◌, map, length, Option, Some, inl, inr, refl, sym, ap, ◌∙◌, arith, append_assoc, slice_get, IfSome, AllByRecursion, and_parts, or_parts, ltb-false, leb-true, ints, length-map, sum_by-append, is_empty, const_fits, consts_fit, decl_fits, decls_fit, Const, Decl, Kind, Values, Fun, Meaning, Enumerator, Scope, meaning_of, number_of, sort_of_domain, size_of_domain, is_domain, is_function, domains_in, functions_in, decl_tokens, range_size, is_far, items_from, declared, times_sizes, table_faults, constants_of, domains_faults, decl_faults, names_after, decls_faults, resolved_domains, resolved_funs, index_of, resolved_const, size_of, product, IsDomain, table_length, IsFun}
+use Rattle.asm_names.proofs.Common.{◌≡◌, ℕ, ◌+◌, ◌*◌, ◌<◌, ◌≤◌, ℤ, pos, negsuc, nat_abs, ◌-ℤ◌, ◌≤ℤ◌, int_lt, true, false, cond, not, ◌||◌, nat_lt, List, [], ◌∷◌, ◌++◌, map, length, Option, Some, inl}
+use Rattle.asm_names.proofs.Common.{inr, refl, sym, ap, ◌∙◌, arith, append_assoc, slice_get, IfSome, AllByRecursion, and_parts, or_parts, ltb-false, leb-true, ints, length-map, sum_by-append}
+use Rattle.asm_names.proofs.Common.{is_empty, const_fits, consts_fit, decl_fits, decls_fit, Const, Decl, Kind, Values, Fun, Meaning, Enumerator, Scope, meaning_of, number_of, sort_of_domain}
+use Rattle.asm_names.proofs.Common.{size_of_domain, is_domain, is_function, domains_in, functions_in, decl_tokens, range_size, is_far, items_from, declared, times_sizes, table_faults, constants_of}
+use Rattle.asm_names.proofs.Common.{domains_faults, decl_faults, names_after, decls_faults, resolved_domains, resolved_funs, index_of, resolved_const, size_of, product, IsDomain, table_length, IsFun}
 use Rattle.std.proofs.Common.{length-append}
 use Rattle.asm_names.proofs.Numbering.{resolved_domains-cons, resolved_funs-cons, new_domains, new_functions}
 use Rattle.asm_names.proofs.Known.{all-append, parts_clean, three_clean, unmet, IsThing, Known, AllKnown, known_at, names_domain}

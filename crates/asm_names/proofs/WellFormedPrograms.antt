@@ -1,5 +1,6 @@
 -- A program without faults is well formed in numbers.
-use Rattle.asm_names.proofs.Common.{◌≡◌, ℕ, true, [], MatchOption, Option, Some, None, refl, sym, ap, ◌∙◌, subst, arith, option_map, Parts, IsProgram, IsLegalWithin, Term, Resolved, Scope, resolved_term, names_of, legal_faults, program_faults, resolved_domains, resolved_funs, resolved_rule_binders, truth, is_truth, sort_of, rule_named, IsWellFormed}
+use Rattle.asm_names.proofs.Common.{◌≡◌, ℕ, true, [], MatchOption, Option, Some, None, refl, sym, ap, ◌∙◌, subst, arith, option_map, Parts, IsProgram, IsLegalWithin, Term, Resolved, Scope}
+use Rattle.asm_names.proofs.Common.{resolved_term, names_of, legal_faults, program_faults, resolved_domains, resolved_funs, resolved_rule_binders, truth, is_truth, sort_of, rule_named, IsWellFormed}
 use Rattle.asm_names.specs.Resolving.{Resolves}
 use Rattle.asm_names.proofs.Known.{three_clean, AllKnown}
 use Rattle.asm_names.proofs.WellFormedTerms.{as_wanted, term_judged}

@@ -1,5 +1,13 @@
 -- A rule without faults is well formed in numbers, and has as many tokens and binders.
-use Rattle.asm_names.proofs.Common.{◌≡◌, ℕ, ◌+◌, ◌<◌, ◌≤◌, pos, Bool, true, false, is_some, nat_eq, ◌&&◌, List, [], ◌∷◌, map, length, Option, Some, None, refl, sym, ap, ◌∙◌, subst, arith, slice_get, IfSome, sum, AllByRecursion, option_map, and_parts, and_from, or_left, or_right, or_from, lt-ltb, eq-eqb, ne_eqb, not_from_false, length-map, sum_by-cons, term_fits, all_fit, option_fits, some_fit, rule_fits_by, Kind, Term, Rule, Rule-F, roll-Rule, map-Rule, ind-Rule, fold-roll-Rule, Values, Fun, Resolved, Sort, Need, ResolvedTerm, ResolvedTerm-F, ResolvedRule, ResolvedRule-F, roll-ResolvedRule, map-ResolvedRule, Meaning, Function, Binder, Scope, meaning_of, number_of, sort_of_domain, term_tokens, rule_tokens, rule_binders, in_parentheses, with_tokens, led, term_sort, term_faults, Faulty, is_fixed, target_faults, target_need, target_sorts, domain_faults, bound_in, guard_faults, each_rule_faults, rule_faults, rule_faults_by, resolved_term, Made, always, resolved_guard, resolved_each, resolved_rule, resolved_rule_by, faulty, made, rule_layer_tokens, rule_layer_binders, resolved_term_tokens, led_if, resolved_rule_tokens, resolved_rule_tokens_by, resolved_rule_binders, resolved_rule_binders_by, Form, truth, thing, Bound, in_scope, is_truth, is_thing, read_sort, sort_of, is_changing, is_zero_by, is_always_by, guard_stands, is_skip_by, else_stands, new_binder, Named, named_by, each_named, rule_named}
+use Rattle.asm_names.proofs.Common.{◌≡◌, ℕ, ◌+◌, ◌<◌, ◌≤◌, pos, Bool, true, false, is_some, nat_eq, ◌&&◌, List, [], ◌∷◌, map, length, Option, Some, None, refl, sym, ap, ◌∙◌, subst, arith, slice_get}
+use Rattle.asm_names.proofs.Common.{IfSome, sum, AllByRecursion, option_map, and_parts, and_from, or_left, or_right, or_from, lt-ltb, eq-eqb, ne_eqb, not_from_false, length-map, sum_by-cons}
+use Rattle.asm_names.proofs.Common.{term_fits, all_fit, option_fits, some_fit, rule_fits_by, Kind, Term, Rule, Rule-F, roll-Rule, map-Rule, ind-Rule, fold-roll-Rule, Values, Fun, Resolved, Sort, Need}
+use Rattle.asm_names.proofs.Common.{ResolvedTerm, ResolvedTerm-F, ResolvedRule, ResolvedRule-F, roll-ResolvedRule, map-ResolvedRule, Meaning, Function, Binder, Scope, meaning_of, number_of}
+use Rattle.asm_names.proofs.Common.{sort_of_domain, term_tokens, rule_tokens, rule_binders, in_parentheses, with_tokens, led, term_sort, term_faults, Faulty, is_fixed, target_faults, target_need}
+use Rattle.asm_names.proofs.Common.{target_sorts, domain_faults, bound_in, guard_faults, each_rule_faults, rule_faults, rule_faults_by, resolved_term, Made, always, resolved_guard, resolved_each}
+use Rattle.asm_names.proofs.Common.{resolved_rule, resolved_rule_by, faulty, made, rule_layer_tokens, rule_layer_binders, resolved_term_tokens, led_if, resolved_rule_tokens, resolved_rule_tokens_by}
+use Rattle.asm_names.proofs.Common.{resolved_rule_binders, resolved_rule_binders_by, Form, truth, thing, Bound, in_scope, is_truth, is_thing, read_sort, sort_of, is_changing, is_zero_by, is_always_by}
+use Rattle.asm_names.proofs.Common.{guard_stands, is_skip_by, else_stands, new_binder, Named, named_by, each_named, rule_named}
 use Rattle.asm_tree.specs.Forms.{rule_fits}
 use Rattle.asm_names.proofs.RuleLevels.{tokens_of, binders_of, resolved_at, faults_at}
 use Rattle.asm_names.proofs.ResolvedLevels.{term_out_of, rule_out_of, sort_at, named, rule_tokens_of, binders_of as resolved_binders_of, named_at}

@@ -1,5 +1,10 @@
 -- A term without faults is well formed in numbers, and has as many tokens.
-use Rattle.asm_names.proofs.Common.{◌≡◌, ℕ, ◌+◌, pos, Bool, true, false, List, [], ◌∷◌, map, length, Option, Some, refl, sym, ◌∙◌, subst, arith, IfSome, list_all, AllByRecursion, and_parts, le-leb, eq-eqb, eqb-true, not-false, length-map, term_fits_by, all_fit, Op, Term, Term-F, roll-Term, map-Term, ind-Term, fold-roll-Term, Values, Fun, Sort, Need, ResolvedTerm, ResolvedTerm-F, roll-ResolvedTerm, map-ResolvedTerm, same_as, refuses, op_sort, left_need, right_need, Meaning, Enumerator, Function, Binder, Scope, meaning_of, sort_of_name, arity_of, argument_sorts, term_tokens, in_parentheses, Part, count_faults, each_faults, term_sort, term_sort_by, term_faults, term_faults_by, resolved_term, resolved_term_by, resolved_name, part, layer_tokens, resolved_term_tokens, resolved_term_tokens_by, Form, truth, thing, Bound, is_thing, binary_sort, read_sort, sort_of, sort_by}
+use Rattle.asm_names.proofs.Common.{◌≡◌, ℕ, ◌+◌, pos, Bool, true, false, List, [], ◌∷◌, map, length, Option, Some, refl, sym, ◌∙◌, subst, arith, IfSome, list_all, AllByRecursion, and_parts, le-leb}
+use Rattle.asm_names.proofs.Common.{eq-eqb, eqb-true, not-false, length-map, term_fits_by, all_fit, Op, Term, Term-F, roll-Term, map-Term, ind-Term, fold-roll-Term, Values, Fun, Sort, Need}
+use Rattle.asm_names.proofs.Common.{ResolvedTerm, ResolvedTerm-F, roll-ResolvedTerm, map-ResolvedTerm, same_as, refuses, op_sort, left_need, right_need, Meaning, Enumerator, Function, Binder, Scope}
+use Rattle.asm_names.proofs.Common.{meaning_of, sort_of_name, arity_of, argument_sorts, term_tokens, in_parentheses, Part, count_faults, each_faults, term_sort, term_sort_by, term_faults}
+use Rattle.asm_names.proofs.Common.{term_faults_by, resolved_term, resolved_term_by, resolved_name, part, layer_tokens, resolved_term_tokens, resolved_term_tokens_by, Form, truth, thing, Bound}
+use Rattle.asm_names.proofs.Common.{is_thing, binary_sort, read_sort, sort_of, sort_by}
 use Rattle.asm_tree.specs.Forms.{term_fits}
 use Rattle.asm_names.proofs.Levels.{tokens_of, sort_at, resolved_at, faults_at}
 use Rattle.asm_names.proofs.ResolvedLevels.{term_tokens_of, sort_at as form_at}

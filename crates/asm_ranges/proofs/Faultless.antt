@@ -2,10 +2,15 @@
 use Rattle.std.proofs.Common.{◌≡◌, ℕ, zero, suc, ◌+◌, ◌*◌, ℤ, true, List, [], ◌∷◌, map, length, Option, Some, None, refl, sym, ap, ◌∙◌, subst, arith, ◌≤◌, Bool}
 use Rattle.std.{proofs.{lemmas.List.{length-map}, Math.ListN.{length-replicate}}, specs.{Prelude.{MatchOption, pos, replicate}, List.{AllByRecursion, AllZip}}}
 use Rattle.asm_tree.specs.declared.decl.{Const.{Const}, Decl.{Decl}, Kind.{Kind}}
-use Rattle.asm_names.specs.{declared.{program.{Domain.{Domain}, Fun.{Fun}, Interval.{Interval}, Resolved.{Resolved}}, resolved_term.ResolvedTerm.{ResolvedTerm}, resolved_rule.ResolvedRule.{ResolvedRule, ResolvedRule-F, fold-ResolvedRule}}, Meanings.{Scope as Names}, Places.{const_tokens}, Programs.{resolved_funs, resolved_const}, WellFormed.{IsFun, IsWellFormed, sort_of, is_truth, size_of, product, table_length}}
+use Rattle.asm_names.specs.declared.{program.{Domain.{Domain}, Fun.{Fun}, Interval.{Interval}, Resolved.{Resolved}}, resolved_term.ResolvedTerm.{ResolvedTerm}}
+use Rattle.asm_names.specs.declared.resolved_rule.ResolvedRule.{ResolvedRule, ResolvedRule-F, fold-ResolvedRule}
+use Rattle.asm_names.specs.{Meanings.{Scope as Names}, Places.{const_tokens}, Programs.{resolved_funs, resolved_const}}
+use Rattle.asm_names.specs.WellFormed.{IsFun, IsWellFormed, sort_of, is_truth, size_of, product, table_length}
 use Rattle.state_space.specs.{Locations.{shape_of, shapes_of, range_of, tuples}, Codomains.{In, just}}
 use Rattle.state_space.proofs.Numbers.{length-tuples}
-use Rattle.asm_ranges.specs.{Ranges.{TableFits, IfStatic, TablesFit, LegalFits, inside, fits, Scope}, RangeFaults.{constants_faults, outside_faults, tables_faults, interval_of, legal_faults, legal_at, range_faults, no_intervals}, Rules.{rule_fits, rule_fits_by, program_fits}, Finding.{IsWord}, Keeping.{Keeps, IsChecked}}
+use Rattle.asm_ranges.specs.Ranges.{TableFits, IfStatic, TablesFit, LegalFits, inside, fits, Scope}
+use Rattle.asm_ranges.specs.RangeFaults.{constants_faults, outside_faults, tables_faults, interval_of, legal_faults, legal_at, range_faults, no_intervals}
+use Rattle.asm_ranges.specs.{Rules.{rule_fits, rule_fits_by, program_fits}, Finding.{IsWord}, Keeping.{Keeps, IsChecked}}
 use Rattle.asm_ranges.proofs.{Intervals.{just-in, inside-in}, SortedTerms.{nil-parts, no-fault, sorted_claim, truth-some}, SortedRules.{named_claim, starts}}
 use Rattle.asm_tree.specs.declared.decl.Decl.TheVariants as decls
 use Rattle.asm_tree.specs.declared.decl.Kind.TheVariants as kinds

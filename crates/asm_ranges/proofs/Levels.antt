@@ -1,10 +1,16 @@
 -- One level of each definition on terms and on rules.
 use Rattle.std.proofs.Common.{◌≡◌, ◌&&◌, [], ◌∷◌, map, refl, ℕ, ◌+◌, ◌^◌, ◌≤◌, true, ℤ, Bool, List, Option, sym, ap, ◌∙◌, Result, Ok, Err}
 use Rattle.std.{specs.{List.{list_all}, Prelude.{slice_get}}, proofs.lemmas.List.Folds.{list_all-map}}
-use Rattle.asm_names.specs.{declared.{program.{Interval.{Interval}, Resolved.{Resolved}, Domain.{Domain}}, resolved_term.ResolvedTerm.{ResolvedTerm, ResolvedTerm-F, roll-ResolvedTerm, fold-roll-ResolvedTerm, para-roll-ResolvedTerm, map-ResolvedTerm}, resolved_rule.ResolvedRule.{ResolvedRule, ResolvedRule-F, roll-ResolvedRule, fold-roll-ResolvedRule, para-roll-ResolvedRule, map-ResolvedRule}}, ResolvedPlaces.{resolved_term_tokens, resolved_rule_tokens}}
+use Rattle.asm_names.specs.declared.program.{Interval.{Interval}, Resolved.{Resolved}, Domain.{Domain}}
+use Rattle.asm_names.specs.declared.resolved_term.ResolvedTerm.{ResolvedTerm, ResolvedTerm-F, roll-ResolvedTerm, fold-roll-ResolvedTerm, para-roll-ResolvedTerm, map-ResolvedTerm}
+use Rattle.asm_names.specs.declared.resolved_rule.ResolvedRule.{ResolvedRule, ResolvedRule-F, roll-ResolvedRule, fold-roll-ResolvedRule, para-roll-ResolvedRule, map-ResolvedRule}
+use Rattle.asm_names.specs.ResolvedPlaces.{resolved_term_tokens, resolved_rule_tokens}
 use Rattle.asm_names.proofs.ResolvedLevels.{term_tokens_of, rule_tokens_of}
 use Rattle.state_space.specs.declared.shape.Shape.{Shape}
-use Rattle.asm_ranges.specs.{declared.{fault.RangeEnd.{RangeEnd}, finding.Found.{Found}}, Values.{value, value_by}, Ranges.{Scope, Part, read_fits, range, range_by, fits, fits_by}, RangeFaults.{Row, FaultyTerm, known, term_faults, term_faults_by, faulty_term, FaultyRule, rule_faults, rule_faults_by, intervals_after, intervals_after_by}, Finding.{small_numbers, small_numbers_by, layer_tokens, layer_small, FindsTerm, FindsLayer}, Rules.{rule_fits, rule_fits_by}, FindingRules.{plain, plain_by, faulty_rule, rule_layer_tokens, layer_plain, layer_after, JudgesRule, JudgesRuleLayer}}
+use Rattle.asm_ranges.specs.{declared.{fault.RangeEnd.{RangeEnd}, finding.Found.{Found}}, Values.{value, value_by}, Ranges.{Scope, Part, read_fits, range, range_by, fits, fits_by}}
+use Rattle.asm_ranges.specs.RangeFaults.{Row, FaultyTerm, known, term_faults, term_faults_by, faulty_term, FaultyRule, rule_faults, rule_faults_by, intervals_after, intervals_after_by}
+use Rattle.asm_ranges.specs.{Finding.{small_numbers, small_numbers_by, layer_tokens, layer_small, FindsTerm, FindsLayer}, Rules.{rule_fits, rule_fits_by}}
+use Rattle.asm_ranges.specs.FindingRules.{plain, plain_by, faulty_rule, rule_layer_tokens, layer_plain, layer_after, JudgesRule, JudgesRuleLayer}
 
 -- a term, and whether it fits
 abbrev pub judged : List Shape → Scope → ResolvedTerm → Part

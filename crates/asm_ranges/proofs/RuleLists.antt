@@ -1,7 +1,8 @@
 -- Rules in a list, one after another, and rules behind a binder.
 use Rattle.std.proofs.Common.{◌≡◌, ℕ, zero, suc, ◌+◌, ◌≤◌, Bool, true, List, [], ◌∷◌, ◌++◌, map, drop, length, Some, Result, Ok, Err, refl, ap, ◌∙◌, arith}
 use Rattle.std.{specs.{Prelude.{slice_set, nat_lt}, List.{AllByRecursion}}, proofs.lemmas.Bool.{ltb-true}}
-use Rattle.asm_names.specs.{declared.{program.{Domain.{Domain}, Fun.{Fun}, Interval.{Interval}}, resolved_rule.ResolvedRule.{ResolvedRule, ResolvedRule-F}, resolved_term.ResolvedTerm.{ResolvedTerm}}, Places.{led}, ResolvedPlaces.{resolved_term_tokens, resolved_rule_tokens, led_if}}
+use Rattle.asm_names.specs.declared.{program.{Domain.{Domain}, Fun.{Fun}, Interval.{Interval}}, resolved_rule.ResolvedRule.{ResolvedRule, ResolvedRule-F}, resolved_term.ResolvedTerm.{ResolvedTerm}}
+use Rattle.asm_names.specs.{Places.{led}, ResolvedPlaces.{resolved_term_tokens, resolved_rule_tokens, led_if}}
 use Rattle.state_space.specs.declared.shape.Shape.{Shape}
 use Rattle.asm_ranges.specs.{declared.fault.RangeEnd.{RangeEnd}, Faults.{first_fault, Judges}, RangeFaults.{Row, rule_faults, guard_faults, intervals_after, interval_of}, Finding.{IsWord, IsReady}, FindingRules.{Passes, JudgesRuleLayer}}
 use Rattle.asm_ranges.proofs.{Firsts.{first-append}, Intervals.{interval-word}}

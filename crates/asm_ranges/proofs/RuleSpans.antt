@@ -2,10 +2,15 @@
 use Rattle.std.proofs.Common.{◌≡◌, ℕ, zero, suc, ◌+◌, ◌<◌, ℤ, Bool, true, false, List, [], ◌∷◌, ◌++◌, map, Option, Some, None, arith}
 use Rattle.std.specs.Prelude.{slice_get, slice_set}
 use Rattle.asm_tree.specs.declared.decl.{Const.{Const}, Decl.{Decl}}
-use Rattle.asm_names.specs.{declared.{program.{Domain.{Domain}, Fun.{Fun}, Interval.{Interval}, Resolved.{Resolved}}, resolved_term.ResolvedTerm.{ResolvedTerm}, resolved_rule.ResolvedRule.{ResolvedRule, out-ResolvedRule, roll-out-ResolvedRule, ResolvedRule-F, map-ResolvedRule}}, Places.{in_parentheses, led, const_tokens, consts_tokens, decl_tokens, decls_tokens, names_tokens}, ResolvedPlaces.{resolved_term_tokens, resolved_rule_tokens, led_if}}
+use Rattle.asm_names.specs.declared.{program.{Domain.{Domain}, Fun.{Fun}, Interval.{Interval}, Resolved.{Resolved}}, resolved_term.ResolvedTerm.{ResolvedTerm}}
+use Rattle.asm_names.specs.declared.resolved_rule.ResolvedRule.{ResolvedRule, out-ResolvedRule, roll-out-ResolvedRule, ResolvedRule-F, map-ResolvedRule}
+use Rattle.asm_names.specs.{Places.{in_parentheses, led, const_tokens, consts_tokens, decl_tokens, decls_tokens, names_tokens}, ResolvedPlaces.{resolved_term_tokens, resolved_rule_tokens, led_if}}
 use Rattle.asm_names.proofs.ResolvedLevels.{rule_tokens_of}
 use Rattle.state_space.specs.{declared.shape.Shape.{Shape}, Locations.{shapes_of}, Codomains.{codomain_range, just}}
-use Rattle.asm_ranges.specs.{Faults.{Spans, Ascending}, Ranges.{range}, RangeFaults.{Row, FaultyRule, known, args_faults, term_faults, domains_of, faulty_term, guard_faults, else_faults, each_rule_faults, intervals_after, interval_of, rule_faults, rule_faults_by, constants_faults, table_faults, funs_behind, tables_faults, legal_faults, legal_tokens, legal_at, no_intervals, range_faults}, FindingRules.{faulty_rule, rule_layer_tokens}}
+use Rattle.asm_ranges.specs.{Faults.{Spans, Ascending}, Ranges.{range}}
+use Rattle.asm_ranges.specs.RangeFaults.{Row, FaultyRule, known, args_faults, term_faults, domains_of, faulty_term, guard_faults, else_faults, each_rule_faults, intervals_after, interval_of}
+use Rattle.asm_ranges.specs.RangeFaults.{rule_faults, rule_faults_by, constants_faults, table_faults, funs_behind, tables_faults, legal_faults, legal_tokens, legal_at, no_intervals, range_faults}
+use Rattle.asm_ranges.specs.FindingRules.{faulty_rule, rule_layer_tokens}
 use Rattle.asm_ranges.proofs.{Levels.{rule_faults_at}, Spans.{none, wider, seq, outside-one, arguments, term_spans}}
 use Rattle.asm_tree.specs.declared.decl.Decl.TheVariants as decls
 use Rattle.asm_tree.specs.declared.decl.Kind.TheVariants as kinds

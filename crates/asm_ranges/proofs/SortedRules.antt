@@ -1,9 +1,17 @@
 -- Rules of a well-formed program without a fault fit.
 use Rattle.std.proofs.Common.{◌≡◌, ℕ, ◌+◌, ◌<◌, ◌≤◌, pos, Bool, true, false, ◌&&◌, ◌||◌, List, [], ◌∷◌, map, length, length-set, get_or-set_same, get_or-set_other, Option, Some, None, refl, sym, ap, ◌∙◌, subst, arith, inl, inr}
-use Rattle.std.{proofs.{lemmas.{List.{length-map, map-set}, Bool.{and_parts, and_from, or_cases, cases_eq, eqb-true, ltb-true, lt-ltb}, Option.{slice_get-map}}, Math.ListN.{length-replicate}}, specs.{Prelude.{slice_get, slice_set, slice_index_or, is_some, nat_eq, nat_lt, replicate, MatchOption}, List.{list_all}, Option.{option_map}}}
-use Rattle.asm_names.specs.{declared.{program.{Fun.{Fun}, Interval.{Interval}, Resolved.{Resolved}}, resolved_term.ResolvedTerm.{ResolvedTerm, ResolvedTerm-F}, resolved_rule.ResolvedRule.{ResolvedRule, ResolvedRule-F, roll-ResolvedRule, ind-ResolvedRule, map-ResolvedRule}}, Places.{in_parentheses}, ResolvedPlaces.{resolved_term_tokens, resolved_rule_binders}, WellFormed.{Bound, in_scope, sort_of, sort_if, is_thing, is_truth, thing, takes, named_by, rule_named, each_named, new_binder, guard_stands, else_stands, RulePart}, Rules.{always}}
+use Rattle.std.proofs.{lemmas.{List.{length-map, map-set}, Bool.{and_parts, and_from, or_cases, cases_eq, eqb-true, ltb-true, lt-ltb}, Option.{slice_get-map}}, Math.ListN.{length-replicate}}
+use Rattle.std.specs.{Prelude.{slice_get, slice_set, slice_index_or, is_some, nat_eq, nat_lt, replicate, MatchOption}, List.{list_all}, Option.{option_map}}
+use Rattle.asm_names.specs.declared.{program.{Fun.{Fun}, Interval.{Interval}, Resolved.{Resolved}}, resolved_term.ResolvedTerm.{ResolvedTerm, ResolvedTerm-F}}
+use Rattle.asm_names.specs.declared.resolved_rule.ResolvedRule.{ResolvedRule, ResolvedRule-F, roll-ResolvedRule, ind-ResolvedRule, map-ResolvedRule}
+use Rattle.asm_names.specs.{Places.{in_parentheses}, ResolvedPlaces.{resolved_term_tokens, resolved_rule_binders}}
+use Rattle.asm_names.specs.WellFormed.{Bound, in_scope, sort_of, sort_if, is_thing, is_truth, thing, takes, named_by, rule_named, each_named, new_binder, guard_stands, else_stands, RulePart}
+use Rattle.asm_names.specs.Rules.{always}
 use Rattle.state_space.specs.{declared.shape.Shape.{Shape}, Locations.{shape_of, shapes_of}, Codomains.{codomain_range}}
-use Rattle.asm_ranges.specs.{Ranges.{Scope, range, fits}, Rules.{rule_fits, rule_fits_by, write_fits}, RangeFaults.{Row, FaultyRule, known, args_faults, domains_of, term_faults, faulty_term, interval_of, intervals_after, after_else, after_each, guard_faults, else_faults, each_rule_faults, rule_faults, rule_faults_by}, Finding.{small_numbers}, FindingRules.{plain, faulty_rule, layer_plain, layer_after}}
+use Rattle.asm_ranges.specs.{Ranges.{Scope, range, fits}, Rules.{rule_fits, rule_fits_by, write_fits}}
+use Rattle.asm_ranges.specs.RangeFaults.{Row, FaultyRule, known, args_faults, domains_of, term_faults, faulty_term, interval_of, intervals_after, after_else, after_each, guard_faults, else_faults}
+use Rattle.asm_ranges.specs.RangeFaults.{each_rule_faults, rule_faults, rule_faults_by}
+use Rattle.asm_ranges.specs.{Finding.{small_numbers}, FindingRules.{plain, faulty_rule, layer_plain, layer_after}}
 use Rattle.asm_names.proofs.{Absent.{absent_guard, absent_else}, ResolvedLevels.{named, named_at}}
 use Rattle.asm_ranges.proofs.{Levels.{fits_at, plain_of, after_of, rule_fits_at, rule_faults_at}, SortedTerms.{args-small, args-taken, all_sorted, Agree, nil-parts, need-inside, sorted_claim, thing-some, truth-some}}
 use Rattle.asm_tree.specs.declared.term.Op.TheVariants as ops

@@ -2,10 +2,14 @@
 use Rattle.std.proofs.Common.{◌≡◌, ℕ, ◌+◌, Bool, true, false, not, ◌&&◌, List, [], ◌∷◌, ◌++◌, map, length, Option, Some, None, refl, sym, ap, ◌∙◌, subst, arith}
 use Rattle.std.{proofs.lemmas.{List.{length-map}, List.Folds.{list_all-map}, Bool.{and_parts, and_from, eqb-true}, Option.{slice_get-map}}, specs.{Prelude.{slice_get, slice_index_or, is_some}, List.{list_all, AllByRecursion}, Option.{option_map}}}
 use Rattle.asm_tree.specs.declared.term.Op.{Op}
-use Rattle.asm_names.specs.{declared.{program.{Domain.{Domain}, Fun.{Fun}, Interval.{Interval}}, resolved_term.ResolvedTerm.{ResolvedTerm, out-ResolvedTerm, roll-out-ResolvedTerm, ResolvedTerm-F, roll-ResolvedTerm, ind-ResolvedTerm, map-ResolvedTerm}}, ResolvedPlaces.{resolved_term_tokens}, WellFormed.{Sort, truth, thing, Bound, in_scope, sort_of, sort_by, sort_if, is_thing, is_truth, binary_sort, takes}}
+use Rattle.asm_names.specs.declared.program.{Domain.{Domain}, Fun.{Fun}, Interval.{Interval}}
+use Rattle.asm_names.specs.declared.resolved_term.ResolvedTerm.{ResolvedTerm, out-ResolvedTerm, roll-out-ResolvedTerm, ResolvedTerm-F, roll-ResolvedTerm, ind-ResolvedTerm, map-ResolvedTerm}
+use Rattle.asm_names.specs.{ResolvedPlaces.{resolved_term_tokens}, WellFormed.{Sort, truth, thing, Bound, in_scope, sort_of, sort_by, sort_if, is_thing, is_truth, binary_sort, takes}}
 use Rattle.asm_names.proofs.ResolvedLevels.{sort_at}
 use Rattle.state_space.specs.{declared.shape.{Range.{Range}, Shape.{Shape}}, Locations.{shape_of, range_of}, Codomains.{whole}}
-use Rattle.asm_ranges.specs.{declared.fault.RangeEnd.{RangeEnd}, Faults.{fault}, Ranges.{Scope, Part, range, range_by, fits, fits_by, inside, args_inside, read_fits, sum_fits, binary_range, truths}, RangeFaults.{Row, FaultyTerm, known, args_faults, domains_of, outside_faults, wide_faults, term_faults, term_faults_by, faulty_term}, Finding.{small_numbers, layer_small, shapes_in}}
+use Rattle.asm_ranges.specs.{declared.fault.RangeEnd.{RangeEnd}, Faults.{fault}, Ranges.{Scope, Part, range, range_by, fits, fits_by, inside, args_inside, read_fits, sum_fits, binary_range, truths}}
+use Rattle.asm_ranges.specs.RangeFaults.{Row, FaultyTerm, known, args_faults, domains_of, outside_faults, wide_faults, term_faults, term_faults_by, faulty_term}
+use Rattle.asm_ranges.specs.Finding.{small_numbers, layer_small, shapes_in}
 use Rattle.asm_ranges.proofs.Levels.{judged, fits_read, range_at, fits_at, small_of, faults_at}
 use Rattle.asm_tree.specs.declared.term.Op.TheVariants as ops
 use Rattle.asm_ranges.specs.declared.fault.RangeEnd.TheVariants as ends

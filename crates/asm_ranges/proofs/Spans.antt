@@ -4,7 +4,8 @@ use Rattle.std.specs.{Prelude.{slice_get}, List.{AllByRecursion}}
 use Rattle.asm_names.specs.{declared.{program.Interval.{Interval}, resolved_term.ResolvedTerm.{ResolvedTerm, out-ResolvedTerm, roll-out-ResolvedTerm, ResolvedTerm-F, map-ResolvedTerm}}, Places.{parted, in_parentheses}, ResolvedPlaces.{resolved_term_tokens}}
 use Rattle.asm_names.proofs.{Known.{all-append}, ResolvedLevels.{term_tokens_of}}
 use Rattle.state_space.specs.{declared.shape.{Range.{Range}, Shape.{Shape}}, Codomains.{whole}}
-use Rattle.asm_ranges.specs.{declared.fault.RangeEnd.{RangeEnd}, Faults.{fault, token_of, Before, Ascending, Spans}, Ranges.{range, inside, sum_fits, binary_range, truths}, RangeFaults.{Row, FaultyTerm, known, args_faults, domains_of, outside_faults, term_faults, term_faults_by, faulty_term}, Finding.{layer_tokens}}
+use Rattle.asm_ranges.specs.{declared.fault.RangeEnd.{RangeEnd}, Faults.{fault, token_of, Before, Ascending, Spans}, Ranges.{range, inside, sum_fits, binary_range, truths}}
+use Rattle.asm_ranges.specs.{RangeFaults.{Row, FaultyTerm, known, args_faults, domains_of, outside_faults, term_faults, term_faults_by, faulty_term}, Finding.{layer_tokens}}
 use Rattle.asm_ranges.proofs.Levels.{faults_at}
 use Rattle.asm_ranges.specs.declared.fault.RangeEnd.TheVariants as ends
 

@@ -2,7 +2,9 @@
 use Rattle.std.proofs.Common.{◌≡◌, ℕ, ◌+◌, [], Option, Some, None, refl, ap, ◌∙◌, arith}
 use Rattle.std.specs.Option.{option_map}
 use Rattle.asm_tree.specs.declared.{rule.Rule.{Rule}, term.Term.{Term}}
-use Rattle.asm_names.specs.{Meanings.{Scope}, Places.{term_tokens, rule_tokens, decls_tokens, program_tokens, legal_tokens as source_legal_tokens}, Programs.{names_of, legal_faults}, DeclFaults.{decls_faults}, ResolvedPlaces.{resolved_term_tokens, resolved_rule_tokens}, RuleFaults.{rule_faults}, Rules.{resolved_rule}, TermFaults.{term_faults}, Terms.{resolved_term}, declared.{program.Resolved.{Resolved}, sort.Need.{Need}}}
+use Rattle.asm_names.specs.{Meanings.{Scope}, Places.{term_tokens, rule_tokens, decls_tokens, program_tokens, legal_tokens as source_legal_tokens}, Programs.{names_of, legal_faults}}
+use Rattle.asm_names.specs.{DeclFaults.{decls_faults}, ResolvedPlaces.{resolved_term_tokens, resolved_rule_tokens}, RuleFaults.{rule_faults}, Rules.{resolved_rule}, TermFaults.{term_faults}}
+use Rattle.asm_names.specs.{Terms.{resolved_term}, declared.{program.Resolved.{Resolved}, sort.Need.{Need}}}
 use Rattle.asm_ranges.specs.RangeFaults.{legal_tokens, text_tokens}
 use Rattle.asm_ranges.proofs.SortedTerms.{nil-parts}
 

@@ -1,6 +1,7 @@
 -- What functions find of the ranges of terms.
 use Rattle.std.specs.{Prelude.{◌≡◌, ℕ, ◌+◌, ◌*◌, pos, negsuc, ◌-ℤ◌, ◌≤ℤ◌, Bool, true, ◌&&◌, List, map, Option, None}, List.{list_all, AllByRecursion}}
-use Rattle.asm_names.specs.{declared.{program.{Domain.{Domain}, Fun.{Fun}, Interval.{Interval}}, resolved_term.ResolvedTerm.{ResolvedTerm, ResolvedTerm-F, fold-ResolvedTerm, map-ResolvedTerm}}, ResolvedPlaces.{resolved_term_tokens, resolved_term_tokens_by}, WellFormed.{IsDomain, IsFun, is_number}}
+use Rattle.asm_names.specs.declared.{program.{Domain.{Domain}, Fun.{Fun}, Interval.{Interval}}, resolved_term.ResolvedTerm.{ResolvedTerm, ResolvedTerm-F, fold-ResolvedTerm, map-ResolvedTerm}}
+use Rattle.asm_names.specs.{ResolvedPlaces.{resolved_term_tokens, resolved_term_tokens_by}, WellFormed.{IsDomain, IsFun, is_number}}
 use Rattle.state_space.specs.{declared.shape.Shape.{Shape}, Locations.{shape_of}}
 use Rattle.asm_ranges.specs.{declared.{fault.RangeEnd.{RangeEnd}, finding.{Found.{Found}, Parts.{Parts}}}, Faults.{first_fault}, Ranges.{range, range_by}, RangeFaults.{Row, FaultyTerm, known, term_faults, term_faults_by, faulty_term}}
 

@@ -1,7 +1,11 @@
 -- The faults of ranges, in the order of the text. `at` is the number of the first token of a part.
 use Rattle.std.specs.Prelude.{ℕ, ◌+◌, ℤ, pos, Bool, true, false, not, List, [], ◌∷◌, ◌++◌, map, replicate, slice_set, slice_get, Option, Some, None}
 use Rattle.asm_tree.specs.declared.decl.{Const.{Const}, Decl.{Decl}}
-use Rattle.asm_names.specs.{declared.{program.{Domain.{Domain}, Fun.{Fun}, Interval.{Interval}, Resolved.{Resolved}}, resolved_term.ResolvedTerm.{ResolvedTerm, ResolvedTerm-F, para-ResolvedTerm, map-ResolvedTerm}, resolved_rule.ResolvedRule.{ResolvedRule, ResolvedRule-F, fold-ResolvedRule, para-ResolvedRule}}, DeclFaults.{constants_of}, Places.{in_parentheses, names_tokens, const_tokens, decl_tokens, decls_tokens}, ResolvedPlaces.{resolved_term_tokens, resolved_rule_tokens, led_if}}
+use Rattle.asm_names.specs.declared.program.{Domain.{Domain}, Fun.{Fun}, Interval.{Interval}, Resolved.{Resolved}}
+use Rattle.asm_names.specs.declared.resolved_term.ResolvedTerm.{ResolvedTerm, ResolvedTerm-F, para-ResolvedTerm, map-ResolvedTerm}
+use Rattle.asm_names.specs.declared.resolved_rule.ResolvedRule.{ResolvedRule, ResolvedRule-F, fold-ResolvedRule, para-ResolvedRule}
+use Rattle.asm_names.specs.{DeclFaults.{constants_of}, Places.{in_parentheses, names_tokens, const_tokens, decl_tokens, decls_tokens}}
+use Rattle.asm_names.specs.ResolvedPlaces.{resolved_term_tokens, resolved_rule_tokens, led_if}
 use Rattle.state_space.specs.{declared.shape.{Range.{Range}, Shape.{Shape}}, Locations.{range_of, shapes_of}, Codomains.{whole, just, codomain_range}}
 use Rattle.asm_ranges.specs.{declared.fault.RangeEnd.{RangeEnd}, Faults.{fault}, Ranges.{Scope, range, range_by, inside, sum_fits, binary_range}}
 use Rattle.asm_tree.specs.declared.decl.Decl.TheVariants as decls

@@ -1,5 +1,7 @@
 -- The range of a term, and the programs whose values stay in their ranges.
-use Rattle.std.specs.{Prelude.{◌≤◌, length, ℕ, ℤ, pos, negsuc, ◌+ℤ◌, ◌-ℤ◌, Bool, true, false, ◌&&◌, List, [], ◌∷◌, map, int_le, slice_index_or, slice_get, Option, Some, None, is_some, IfSome, MatchOption, ◌≡◌}, List.{list_all, AllZip, AllByRecursion}, Option.{unwrap_or}, Int.{int_min, int_max}}
+use Rattle.std.specs.Prelude.{◌≤◌, length, ℕ, ℤ, pos, negsuc, ◌+ℤ◌, ◌-ℤ◌, Bool, true, false, ◌&&◌, List, [], ◌∷◌, map, int_le, slice_index_or, slice_get, Option, Some, None, is_some, IfSome}
+use Rattle.std.specs.Prelude.{MatchOption, ◌≡◌}
+use Rattle.std.specs.{List.{list_all, AllZip, AllByRecursion}, Option.{unwrap_or}, Int.{int_min, int_max}}
 use Rattle.asm_tree.specs.declared.{decl.Kind.{Kind}, term.Op.{Op}}
 use Rattle.state_space.specs.{Locations.{tuples, state_locations, input_locations, shape_of, shapes_of}, declared.shape.{Range.{Range}, Shape.{Shape}}}
 use Rattle.asm_names.specs.declared.{program.{Resolved.{Resolved}, Interval.{Interval}}, resolved_term.ResolvedTerm.{ResolvedTerm, ResolvedTerm-F, fold-ResolvedTerm, para-ResolvedTerm}}

@@ -29,10 +29,6 @@ two o f w t = grind (arith, nat_tests)
 three : (o f g : ℕ) (w : ℕ) → ((bits w 6 0 == o) && (bits w 14 12 == f) && (bits w 31 25 == g)) ≡ true → (bits w 6 0 ≡ o) × (bits w 14 12 ≡ f) × (bits w 31 25 ≡ g)
 three o f g w t = grind (arith, nat_tests)
 
--- a word is the sum of its fields
-whole_r : (w : ℕ) → w < 2 ^ 32 → w ≡ bits w 31 25 * 2 ^ 25 + bits w 24 20 * 2 ^ 20 + bits w 19 15 * 2 ^ 15 + bits w 14 12 * 2 ^ 12 + bits w 11 7 * 2 ^ 7 + bits w 6 0
-whole_r w h = omega arith
-
 -- one lemma for each format
 module _ (w : ℕ) (below : w < 2 ^ 32) (o : ℕ) where
   u_row : (bits w 6 0 == o) ≡ true → IsU w o (bits w 11 7) (bits w 31 12)
