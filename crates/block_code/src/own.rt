@@ -1,7 +1,6 @@
 //! The code that blocks have of their own.
 
 ghost use Rattle.std.specs.Prelude.{◌≡◌, ℕ, ℤ, pos, ◌+◌, ◌<◌, ◌≤◌, ◌^◌, ◌⊎◌, ◌++◌, ◌∷◌, []};
-ghost use Rattle.rv_isa.specs.declared.instr.Instr.TheVariants as instr;
 ghost use Rattle.block_laws.specs.Plan as plan;
 
 use crate::operands::{imm_b, imm_j, imm12, reg};
@@ -35,10 +34,10 @@ pub(crate) fn backward(words: u64) -> Instr
     }
 }
 
-/// A skip over the next word where the register is not 0.
+/// A skip of so many bytes where the register is not 0.
 fn skip_if_set(test: Reg, offset: u32) -> Instr
     requires even { (offset ≡ 8) ⊎ (offset ≡ 24) }
-    ensures { result ≡ instr.Bne test 0 (pos offset) }
+    ensures { result ≡ plan.skip_if_set test offset }
 {
     Instr::Bne {
         rs1: test,
@@ -50,7 +49,7 @@ fn skip_if_set(test: Reg, offset: u32) -> Instr
 /// The code of a choice before its then part, with the jump over so many words to its else part.
 pub(crate) fn choice(test: Reg, words: u64) -> [Instr; 2]
     requires { words < 262144 }
-    ensures { result ≡ instr.Bne test 0 (pos 8) ∷ plan.forward words ∷ [] }
+    ensures { result ≡ plan.skip_if_set test 8 ∷ plan.forward words ∷ [] }
 {
     [skip_if_set(test, 8), forward(words)]
 }
@@ -148,7 +147,7 @@ pub(crate) fn tail(slot: u32, words: u64) -> [Instr; 5]
 pub(crate) fn judged_tail(test: Reg, slot: u32, words: u64) -> [Instr; 6]
     requires slot { slot < 2 ^ 20 }
     requires words { words ≤ 262144 }
-    ensures { result ≡ instr.Bne test 0 (pos 24) ∷ (plan.raised slot ++ plan.backward words ∷ []) }
+    ensures { result ≡ plan.skip_if_set test 24 ∷ (plan.raised slot ++ plan.backward words ∷ []) }
 {
     let [page, counter, sum, store, back] = tail(slot, words);
     [skip_if_set(test, 24), page, counter, sum, store, back]
