@@ -7,11 +7,9 @@ ghost use Rattle.trap_model.specs.Map.{ram_base};
 
 use crate::operands::{imm_u, imm12, reg};
 use rv_isa::{Imm12, ImmU, Instr, Reg};
-use trap_model::Width;
+use trap_model::{RAM_BASE, Width};
 
 pub(crate) const SCRATCH: u32 = 21;
-
-const RAM_BASE: u32 = 0x1000_0000;
 
 /// The high 20 bits that with the low part make the word.
 pub(crate) fn high_part(value: u32) -> ImmU

@@ -10,9 +10,7 @@ use rv_isa::Reg;
 use rv_machine::Hart;
 use std::alloc::AllocError;
 use text_core::{put_bytes, put_dec_unsigned, put_hex8};
-
-/// The address of the first byte of RAM.
-const RAM_BASE: u32 = 0x1000_0000;
+use trap_model::RAM_BASE;
 
 /// Appends the line of a word that was sent.
 pub(crate) fn put_send(out: &mut Vec<u8>, tick: u32, port: u32, word: u32) -> Result<(), AllocError>

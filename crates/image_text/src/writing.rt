@@ -13,9 +13,7 @@ use round_spec::{Built, Entry, Numbers};
 use stab_io::Bytes;
 use std::alloc::{AllocError, Global};
 use text_core::{put_bytes, put_dec, put_dec_unsigned, put_hex8};
-
-/// The address of the first byte of RAM.
-const RAM_BASE: u32 = 0x1000_0000;
+use trap_model::RAM_BASE;
 
 /// Appends the line of a word and a number.
 fn put_number(out: &mut Vec<u8>, word: &[u8], number: u64) -> Result<(), AllocError>

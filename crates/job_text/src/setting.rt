@@ -5,15 +5,13 @@ ghost use Rattle.job_text.specs.Settings.{IsSetting, IsTicks, IsWordPlace, count
 
 use rv_isa::Reg;
 use text_core::{next_field, read_dec, read_hex};
+use trap_model::RAM_BASE;
 
 /// The most ticks that a job may ask for.
 const MOST_TICKS: u64 = 10_000_000;
 
 /// The number of the last register.
 const LAST_REG: u64 = 31;
-
-/// The address of the first byte of RAM.
-const RAM_BASE: u32 = 0x1000_0000;
 
 /// What a line of the section `%run` sets.
 #[derive(Clone, Copy, Debug)]

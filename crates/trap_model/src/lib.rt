@@ -14,7 +14,7 @@
 mod map;
 mod width;
 
-pub use map::{Loads, MemMap, Stores};
+pub use map::{Loads, MemMap, RAM_BASE, Stores};
 pub use width::Width;
 
 #[cfg(test)]

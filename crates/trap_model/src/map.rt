@@ -5,7 +5,7 @@ ghost use Rattle.trap_model.specs.Map.{IsFetchInside, IsLoadInside, IsStoreInsid
 ghost use Rattle.trap_model.specs.Width.{IsWidth};
 
 /// The address of the first byte of RAM.
-const RAM_BASE: u32 = 0x1000_0000;
+pub const RAM_BASE: u32 = 0x1000_0000;
 
 /// The address of input port 0.
 const IN_BASE: u32 = 0x2000_0000;
