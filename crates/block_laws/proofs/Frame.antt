@@ -4,10 +4,10 @@ use Rattle.std.proofs.lemmas.Bool.{cases_lt}
 use Rattle.block_laws.specs.Block.{IsBlock, IsSlot, Keeps, KeepsWord, Spares}
 use Rattle.block_laws.specs.During.{Allows, During, IsQuiet, Spared}
 use Rattle.block_laws.specs.Ends.{Arrived, Ends, Onward, Stopped}
-use Rattle.block_laws.specs.Moment.{Moment, moment_after, next, traps}
+use Rattle.block_laws.specs.Moment.{Moment, next, traps}
 use Rattle.block_laws.specs.Place.{IsMachine, Within, word_in}
 use Rattle.block_laws.specs.Plan.{If, Line, Loop, Plan, Scan, Seq}
-use Rattle.block_laws.proofs.Keeps.{keeps-on, word_at}
+use Rattle.block_laws.proofs.Keeps.{keeps-now, keeps-on, word_at}
 use Rattle.block_laws.proofs.Structure.{law-of-frame, law-of-top}
 use Rattle.block_laws.proofs.Machine.{word_in-before, word_in-behind}
 
@@ -32,15 +32,7 @@ module _ (rom : List ℕ) (slot : ℕ) where
   keeps-during k (Arrived g) = Arrived g
   keeps-during k (Stopped i t c) = Stopped (λ u. absurd (cc)) t c
   keeps-during {low = low} {high = high} {s = s} k (Onward i t e) =
-      Onward (λ u. k 0 (λ v h. first v i h) (λ v h. first' v t h)) t (keeps-during (keeps-on rom low high slot s k i t) e)
-    where
-      first : (u : ℕ) → Within low high s → u ≤ 0 → Within low high (moment_after rom u s)
-      first zero w h = w
-      first (suc u) w h = absurd (omega arith)
-
-      first' : (u : ℕ) → traps rom s ≡ false → u ≤ 0 → traps rom (moment_after rom u s) ≡ false
-      first' zero w h = w
-      first' (suc u) w h = absurd (omega arith)
+      Onward (λ u. keeps-now rom low high slot s k i u) t (keeps-during (keeps-on rom low high slot s k i t) e)
 
   -- a store at another slot
   other-slot : (size own : ℕ) → IsMachine rom size → IsSlot slot → IsSlot own → own ≢ slot → Allows rom size (TickKeeps rom slot) own
