@@ -1,32 +1,58 @@
--- What holds of all programs whose values stay in their ranges.
-use Rattle.std.specs.Prelude.{◌≡◌, ℤ, true, List}
+-- What holds of the values of a checked program.
+use Rattle.std.specs.Prelude.{◌≡◌, ℤ, pos, true, List, ◌⊎◌}
 use Rattle.asm_names.specs.declared.{program.Resolved.{Resolved}, resolved_term.ResolvedTerm.{ResolvedTerm}}
+use Rattle.asm_names.specs.WellFormed.{Bound, is_truth, sort_of}
 use Rattle.asm_tree.specs.declared.term.Op.{Op}
-use Rattle.state_space.specs.{Locations.{shapes_of}, Codomains.{In}}
-use Rattle.asm_ranges.specs.{Ranges.{Scope, EnvFits, ReadsFit, fits, range, words}, Instances.{Numbers, instance, numbered_env}, Values.{value}}
+use Rattle.state_space.specs.{Locations.{signatures_of}, Codomains.{In}}
+use Rattle.asm_ranges.specs.{Ranges.{Scope, EnvFits, ReadsFit, sums_fit, range, words}, Facts.{refined}, Places.{Place, StandsTerm, AreTrue}, Instances.{Numbers, NumbersFit, instance, numbered_env}, Values.{value, defined, binary}, Keeping.{IsChecked}, Faults.{Ascending}, RangeFaults.{range_faults}}
 use Rattle.asm_names.specs.declared.resolved_term.ResolvedTerm.TheVariants as terms
 
--- the value of a term that fits lies in its range
+-- A term of a checked program, where what is known at its place is true, meets no function outside its domains, its sums
+-- fit, and its value lies in its refined range.
+abbrev pub TermsAreDefined : Type 0
+TermsAreDefined =
+    (program : Resolved) (state inputs env : List ℤ) (term : ResolvedTerm) (place : Place) → IsChecked program → ReadsFit program state inputs
+    → StandsTerm program term place → EnvFits place.scope env → AreTrue program state inputs env place.facts
+    → (sums_fit (signatures_of program) place.scope term ≡ true) × (defined program state inputs env term ≡ true)
+    × In (refined (signatures_of program) place.scope term place.facts) (value program state inputs env term)
+
+-- the sums of a term of a checked program fit wherever it stands
+abbrev pub SumsFit : Type 0
+SumsFit = (program : Resolved) (term : ResolvedTerm) (place : Place) → IsChecked program → StandsTerm program term place → sums_fit (signatures_of program) place.scope term ≡ true
+
+-- the value of a term whose sums fit, and that meets no function outside its domains, lies in its plain range
 abbrev pub ValuesLieInRanges : Type 0
 ValuesLieInRanges =
     (program : Resolved) (state inputs env : List ℤ) (scope : Scope) (term : ResolvedTerm) → ReadsFit program state inputs → EnvFits scope env
-    → fits (shapes_of program) scope term ≡ true → In (range (shapes_of program) scope term) (value program state inputs env term)
+    → sums_fit (signatures_of program) scope term ≡ true → defined program state inputs env term ≡ true → In (range (signatures_of program) scope term) (value program state inputs env term)
 
--- the value of two terms that fit with an operator between them is in 32 signed bits
+-- and no sum of it passes 32 signed bits
 abbrev pub SumsAreWords : Type 0
 SumsAreWords =
     (program : Resolved) (state inputs env : List ℤ) (scope : Scope) (op : Op) (left right : ResolvedTerm) → ReadsFit program state inputs → EnvFits scope env
-    → fits (shapes_of program) scope (terms.Binary op left right) ≡ true → In words (value program state inputs env (terms.Binary op left right))
+    → sums_fit (signatures_of program) scope (terms.Binary op left right) ≡ true → defined program state inputs env (terms.Binary op left right) ≡ true
+    → In words (binary op (value program state inputs env left) (value program state inputs env right))
 
--- a term with numbers in the place of binders has the value that the term has where the binders have these values
+-- the value of a truth-sorted term is 0 or 1
+abbrev pub TruthsAreBits : Type 0
+TruthsAreBits =
+    (program : Resolved) (state inputs env : List ℤ) (bound : Bound) (term : ResolvedTerm) → is_truth (sort_of program.funs bound term) ≡ true
+    → (value program state inputs env term ≡ pos 0) ⊎ (value program state inputs env term ≡ pos 1)
+
+-- A term with numbers in the place of binders has the value that the term has where the binders have these values, and is
+-- defined where that is.
 abbrev pub InstancesHaveValues : Type 0
 InstancesHaveValues =
     (program : Resolved) (state inputs env : List ℤ) (numbers : Numbers) (term : ResolvedTerm)
-    → value program state inputs env (instance numbers term) ≡ value program state inputs (numbered_env numbers env) term
+    → (value program state inputs env (instance numbers term) ≡ value program state inputs (numbered_env numbers env) term)
+    × (defined program state inputs env (instance numbers term) ≡ defined program state inputs (numbered_env numbers env) term)
 
--- its value lies in the range of the term
-abbrev pub InstancesLieInRanges : Type 0
-InstancesLieInRanges =
-    (program : Resolved) (state inputs env : List ℤ) (scope : Scope) (numbers : Numbers) (term : ResolvedTerm) → ReadsFit program state inputs
-    → EnvFits scope (numbered_env numbers env) → fits (shapes_of program) scope term ≡ true
-    → In (range (shapes_of program) scope term) (value program state inputs env (instance numbers term))
+-- the sums of an instance fit where those of the term do, if its numbers lie in the intervals of their binders
+abbrev pub InstancesFit : Type 0
+InstancesFit =
+    (program : Resolved) (scope : Scope) (numbers : Numbers) (term : ResolvedTerm) → NumbersFit scope numbers → sums_fit (signatures_of program) scope term ≡ true
+    → sums_fit (signatures_of program) scope (instance numbers term) ≡ true
+
+-- the faults of a program come by token, and at one token a sum too wide before a value outside its domain
+abbrev pub FaultsAscend : Type 0
+FaultsAscend = (program : Resolved) → Ascending (range_faults program)
