@@ -174,9 +174,13 @@ module _ (program : Resolved) where
       let e = roll-out-ResolvedRule r in
       legible_of x r e ds from ∙ layer n (depth n) x (omega (arith, room, rule_tokens_of x r e)) bound before from (sym (named_at x r e bound before) ∙ h) less
 
+  -- a rule with its binders in text order is legible from the first of them on
+  pub named-legible-from : (r : ResolvedRule) (bound : Bound) (before from : ℕ) → rule_named program r bound before ≡ true → from ≤ before → legible ds r from ≡ true
+  named-legible-from r = depth (suc (resolved_rule_tokens r)) r (omega arith)
+
   -- the rule of a well-formed program is legible from its first binder on
   pub named-legible : (r : ResolvedRule) → rule_named program r [] 0 ≡ true → legible ds r 0 ≡ true
-  named-legible r h = depth (suc (resolved_rule_tokens r)) r (omega arith) [] 0 0 h (omega arith)
+  named-legible r h = named-legible-from r [] 0 0 h (omega arith)
 
 -- ---- rows
 

@@ -85,6 +85,10 @@ pub data StandsTerm (program : Resolved) : ResolvedTerm → Place → Type 0 whe
   first_of : (guard first second : ResolvedTerm) (place : Place) → StandsTerm program (terms.Cond guard first second) place → StandsTerm program first (held guard place)
   second_of : (guard first second : ResolvedTerm) (place : Place) → StandsTerm program (terms.Cond guard first second) place → StandsTerm program second (failed guard place)
 
+-- a term stands somewhere in the program
+abbrev pub Stands : Resolved → ResolvedTerm → Type 0
+Stands program term = (place : Place) × StandsTerm program term place
+
 -- ---- what is true at a place
 
 -- a fact is true where the binders have these values
