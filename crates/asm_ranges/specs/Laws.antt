@@ -1,9 +1,9 @@
 -- What holds of the values of a checked program.
-use Rattle.std.specs.Prelude.{◌≡◌, ℤ, pos, true, List, ◌⊎◌}
+use Rattle.std.specs.Prelude.{◌≡◌, ℕ, ℤ, pos, true, List, map, slice_get, is_some, Some, ◌⊎◌}
 use Rattle.asm_names.specs.declared.{program.Resolved.{Resolved}, resolved_term.ResolvedTerm.{ResolvedTerm}}
 use Rattle.asm_names.specs.WellFormed.{Bound, is_truth, sort_of}
 use Rattle.asm_tree.specs.declared.term.Op.{Op}
-use Rattle.state_space.specs.{Locations.{signatures_of}, Codomains.{In}}
+use Rattle.state_space.specs.{Locations.{is_input, is_state, input_locations, place_among, signatures_of, state_locations, tuple_number}, Codomains.{In}, declared.signature.Signature.{Signature}}
 use Rattle.asm_ranges.specs.{Ranges.{Scope, EnvFits, ReadsFit, sums_fit, range, words}, Facts.{refined}, Places.{Place, StandsTerm, AreTrue}, Instances.{Numbers, NumbersFit, instance, numbered_env}, Values.{value, defined, binary}, Keeping.{IsChecked}, Faults.{Ascending}, RangeFaults.{range_faults}}
 use Rattle.asm_names.specs.declared.resolved_term.ResolvedTerm.TheVariants as terms
 
@@ -38,6 +38,17 @@ abbrev pub TruthsAreBits : Type 0
 TruthsAreBits =
     (program : Resolved) (state inputs env : List ℤ) (bound : Bound) (term : ResolvedTerm) → is_truth (sort_of program.funs bound term) ≡ true
     → (value program state inputs env term ≡ pos 0) ⊎ (value program state inputs env term ≡ pos 1)
+
+-- Where a term that reads a function is defined, the values of its arguments are those of a location: in the state, among
+-- the inputs, or in the function's table.
+abbrev pub ReadsHaveLocations : Type 0
+ReadsHaveLocations =
+    (program : Resolved) (state inputs env : List ℤ) (fun : ℕ) (args : List ResolvedTerm) (signature : Signature)
+    → slice_get (signatures_of program) fun ≡ Some signature → defined program state inputs env (terms.Read fun args) ≡ true
+    → let values = map (value program state inputs env) args in
+    (is_state signature.kind ≡ true → is_some (place_among (state_locations (signatures_of program)) (record { fun = fun; args = values })) ≡ true)
+    × (is_input signature.kind ≡ true → is_some (place_among (input_locations (signatures_of program)) (record { fun = fun; args = values })) ≡ true)
+    × (is_some (tuple_number signature.args values) ≡ true)
 
 -- A term with numbers in the place of binders has the value that the term has where the binders have these values, and is
 -- defined where that is.
