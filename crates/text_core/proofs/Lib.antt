@@ -4,3 +4,4 @@ pub mod FirstLine
 pub mod Hexadecimal
 pub mod InOrder
 pub mod Parted
+pub mod Begun
