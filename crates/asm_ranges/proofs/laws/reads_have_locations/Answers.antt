@@ -1,12 +1,10 @@
-use Rattle.std.proofs.Common.{ap, sym, ◌∙◌, ◌≡◌, true, Bool, List, Option, Some, arith, ℤ, map}
-use Rattle.std.specs.Prelude.{is_some, slice_get}
-use Rattle.std.specs.Cmp.Lexicographic.{pointwise}
+use Rattle.std.proofs.Common.{ap, sym, ◌∙◌, ◌≡◌, true, Bool, List, arith, ℤ, map}
+use Rattle.std.specs.Prelude.{is_some}
 use Rattle.std.specs.List.{list_any, position}
-use Rattle.std.specs.Ordering.{int_eq}
 use Rattle.std.proofs.lemmas.Bool.{and_parts}
 use Rattle.asm_names.specs.declared.resolved_term.ResolvedTerm.{ResolvedTerm-F}
 use Rattle.asm_names.specs.declared.resolved_term.ResolvedTerm.TheVariants as terms
-use Rattle.state_space.specs.Locations.{input_locations, is_input, is_state, same_location, signatures_of, state_locations, tuples}
+use Rattle.state_space.specs.Locations.{input_locations, is_input, is_state, signatures_of, state_locations, tuples}
 use Rattle.asm_ranges.specs.Values.{takes_args, value}
 use Rattle.asm_ranges.proofs.{Levels.{defined_at, defined_read}, Readings.{found, location_in, tuple_in}, Terms.{lie-in}}
 use Rattle.asm_ranges.proofs.laws.reads_have_locations.Goals as goal
