@@ -89,9 +89,10 @@ module _ (program : Resolved) (state inputs env : List ℤ) (numbers : Numbers) 
   pub instance_defined : (t : ResolvedTerm) → Claim t
   instance_defined = ind-ResolvedTerm Claim (λ x y is. subst (λ z. Claim (roll-ResolvedTerm z)) is (rolled (map-ResolvedTerm Sound ResolvedTerm term y) (layer y)))
 
-module _ (signatures : List Signature) (scope : Scope) (numbers : Numbers) (fit : NumbersFit scope numbers) where
+-- the instance may stand where the binders with numbers are not in scope
+module _ (signatures : List Signature) (scope inner : Scope) (numbers : Numbers) (fit : NumbersFit scope numbers) (same : (b : ℕ) → slice_index_or numbers b None ≡ None → inner b ≡ scope b) where
   abbrev Narrow : ResolvedTerm → Type 0
-  Narrow t = sums_fit signatures scope t ≡ true → Within (range signatures scope (instance numbers t)) (range signatures scope t) × (sums_fit signatures scope (instance numbers t) ≡ true)
+  Narrow t = sums_fit signatures scope t ≡ true → Within (range signatures inner (instance numbers t)) (range signatures scope t) × (sums_fit signatures inner (instance numbers t) ≡ true)
 
   abbrev Small : Type 0
   Small = (t : ResolvedTerm) × Narrow t
@@ -102,30 +103,30 @@ module _ (signatures : List Signature) (scope : Scope) (numbers : Numbers) (fit 
   abbrev NarrowLayer : ResolvedTerm-F ResolvedTerm → Type 0
   NarrowLayer x =
       sums_fit_by signatures scope (map-ResolvedTerm ResolvedTerm Part (judged signatures scope) x) ≡ true
-      → Within (range signatures scope (instance_by numbers (map-ResolvedTerm ResolvedTerm ResolvedTerm (instance numbers) x))) (range_by signatures scope (map-ResolvedTerm ResolvedTerm Interval (range signatures scope) x))
-      × (sums_fit signatures scope (instance_by numbers (map-ResolvedTerm ResolvedTerm ResolvedTerm (instance numbers) x)) ≡ true)
+      → Within (range signatures inner (instance_by numbers (map-ResolvedTerm ResolvedTerm ResolvedTerm (instance numbers) x))) (range_by signatures scope (map-ResolvedTerm ResolvedTerm Interval (range signatures scope) x))
+      × (sums_fit signatures inner (instance_by numbers (map-ResolvedTerm ResolvedTerm ResolvedTerm (instance numbers) x)) ≡ true)
 
   abbrev Answer : ResolvedTerm → Interval → Type 0
-  Answer t whole = Within (range signatures scope t) whole × (sums_fit signatures scope t ≡ true)
+  Answer t whole = Within (range signatures inner t) whole × (sums_fit signatures inner t ≡ true)
 
   from : (x : ResolvedTerm-F ResolvedTerm) (t : ResolvedTerm) → roll-ResolvedTerm x ≡ t → (whole : Interval)
-      → Within (range_by signatures scope (map-ResolvedTerm ResolvedTerm Interval (range signatures scope) x)) whole
-      → sums_fit_by signatures scope (map-ResolvedTerm ResolvedTerm Part (judged signatures scope) x) ≡ true → Answer t whole
-  from x t e whole w h = (subst (λ (i : Interval). Within i whole) (sym (range_at x t e signatures scope)) w, sums_at x t e signatures scope ∙ h)
+      → Within (range_by signatures inner (map-ResolvedTerm ResolvedTerm Interval (range signatures inner) x)) whole
+      → sums_fit_by signatures inner (map-ResolvedTerm ResolvedTerm Part (judged signatures inner) x) ≡ true → Answer t whole
+  from x t e whole w h = (subst (λ (i : Interval). Within i whole) (sym (range_at x t e signatures inner)) w, sums_at x t e signatures inner ∙ h)
 
-  narrow-var : (b : ℕ) (o : Option Interval) (n : Option ℤ) → scope b ≡ o → IfSome n (λ number. IfSome o (λ interval. In interval number)) → is_some o ≡ true
+  narrow-var : (b : ℕ) (o : Option Interval) (n : Option ℤ) → scope b ≡ o → (n ≡ None → inner b ≡ o) → IfSome n (λ number. IfSome o (λ interval. In interval number)) → is_some o ≡ true
       → Answer (number_or n b) (unwrap_or o (just (pos 0)))
-  narrow-var b None n e k h = absurd cc
-  narrow-var b (Some i) None e k h = from (ResolvedTerm-F.Var b) _ (terms.rolls-Var b) i (rw e (within-same i)) (ap is_some e)
-  narrow-var b (Some i) (Some v) e k h = from (ResolvedTerm-F.Number v) _ (terms.rolls-Number v) i (record { low = k.low; high = k.high }) refl
+  narrow-var b None n e f k h = absurd cc
+  narrow-var b (Some i) None e f k h = from (ResolvedTerm-F.Var b) _ (terms.rolls-Var b) i (rw (f refl) (within-same i)) (ap is_some (f refl))
+  narrow-var b (Some i) (Some v) e f k h = from (ResolvedTerm-F.Number v) _ (terms.rolls-Number v) i (record { low = k.low; high = k.high }) refl
 
-  args-narrow : (ts : List Small) → list_all (sums_fit signatures scope) (map small_term ts) ≡ true → list_all (sums_fit signatures scope) (map (instance numbers) (map small_term ts)) ≡ true
+  args-narrow : (ts : List Small) → list_all (sums_fit signatures scope) (map small_term ts) ≡ true → list_all (sums_fit signatures inner) (map (instance numbers) (map small_term ts)) ≡ true
   args-narrow [] h = refl
   args-narrow (t ∷ ts) h = let p = and_parts _ _ h in and_from _ _ (t.1 p.0).1 (args-narrow ts p.1)
 
   pair : (l r : Small) → (sums_fit signatures scope l.0 && sums_fit signatures scope r.0) ≡ true
-      → Within (range signatures scope (instance numbers l.0)) (range signatures scope l.0) × Within (range signatures scope (instance numbers r.0)) (range signatures scope r.0)
-      × ((sums_fit signatures scope (instance numbers l.0) && sums_fit signatures scope (instance numbers r.0)) ≡ true)
+      → Within (range signatures inner (instance numbers l.0)) (range signatures scope l.0) × Within (range signatures inner (instance numbers r.0)) (range signatures scope r.0)
+      × ((sums_fit signatures inner (instance numbers l.0) && sums_fit signatures inner (instance numbers r.0)) ≡ true)
   pair l r h =
       let p = and_parts _ _ h in
       let a = l.1 p.0 in
@@ -134,10 +135,10 @@ module _ (signatures : List Signature) (scope : Scope) (numbers : Numbers) (fit 
 
   narrow-layer : (x : ResolvedTerm-F Small) → NarrowLayer (map-ResolvedTerm Small ResolvedTerm small_term x)
   narrow-layer (ResolvedTerm-F.Number v) h = from (ResolvedTerm-F.Number v) _ (terms.rolls-Number v) _ (within-same _) refl
-  narrow-layer (ResolvedTerm-F.Var b) h = narrow-var b (scope b) (slice_index_or numbers b None) refl (fit b) h
+  narrow-layer (ResolvedTerm-F.Var b) h = narrow-var b (scope b) (slice_index_or numbers b None) refl (same b) (fit b) h
   narrow-layer (ResolvedTerm-F.Read fun ts) h =
       from (ResolvedTerm-F.Read fun (map (instance numbers) (map small_term ts))) _ (terms.rolls-Read fun _) _ (within-same _)
-      (sums_read signatures scope fun _ ∙ args-narrow ts (sym (sums_read signatures scope fun (map small_term ts)) ∙ h))
+      (sums_read signatures inner fun _ ∙ args-narrow ts (sym (sums_read signatures scope fun (map small_term ts)) ∙ h))
   narrow-layer (ResolvedTerm-F.Binary op l r) h =
       let p = and_parts _ _ h in
       let q = pair l r p.0 in

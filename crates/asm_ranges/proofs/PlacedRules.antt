@@ -1,12 +1,13 @@
 -- The parts of rules that stand where binders have values.
 use Rattle.std.proofs.Common.{◌≡◌, ℕ, ◌<◌, ◌≤◌, ℤ, pos, Bool, true, false, List, [], ◌∷◌, map, length, Option, Some, refl, sym, ap, ◌∙◌, subst, arith, inl, inr, get_or-set_same, get_or-set_other, length-set, ◌==◌, eq-eqb, ◌+◌, suc}
-use Rattle.std.{specs.{Prelude.{slice_get, slice_set, slice_index_or, is_some, IfSome}, List.{list_all, AllByRecursion, Contains}}, proofs.{lemmas.{List.{length-map}, Bool.{and_from, cases_Bool, eqb-true, both_ways}, Option.{slice_get-map}}}}
-use Rattle.asm_names.specs.declared.{program.{Resolved.{Resolved}, Interval.{Interval}}, resolved_term.ResolvedTerm.{ResolvedTerm}, resolved_rule.ResolvedRule.{ResolvedRule}}
+use Rattle.std.{specs.{Prelude.{slice_get, slice_set, slice_index_or, is_some, IfSome}, List.{list_all, AllByRecursion, Contains}}, proofs.{lemmas.{List.{length-map}, Bool.{and_from, and_parts, cases_Bool, eqb-true, both_ways}, Option.{slice_get-map}}}}
+use Rattle.asm_names.specs.declared.{program.{Resolved.{Resolved}, Interval.{Interval}}, resolved_term.ResolvedTerm.{ResolvedTerm}, resolved_rule.ResolvedRule.{ResolvedRule, ResolvedRule-F}}
+use Rattle.asm_names.specs.WellFormed.{may_be_updated}
 use Rattle.state_space.specs.{declared.signature.Signature.{Signature}, Locations.{signatures_of, signature_of}, Codomains.{In, codomain_range, whole}}
 use Rattle.asm_ranges.specs.{Ranges.{Scope, scoped, range, sums_fit, EnvFits, ReadsFit, domain_interval}, Facts.{Facts, Held, Failed, Bounded, refined}, Keeping.{IsChecked}, Values.{value, defined, holds, takes_args}}
 use Rattle.asm_ranges.specs.Places.{Place, outermost, held, failed, over, guarded_by, bound_to, StandsRule, StandsTerm, the_rule, then_of, else_of, part_of, forall_of, choose_of, none_of, let_of, the_legal, AreTrue, TermPlaced, TermsPlaced, RulePlaced, RulesPlaced, ElementsPlaced}
 use Rattle.asm_ranges.proofs.{Agreement.{AgreeOn, alike}, Intervals.{inside-in}, Readings.{reads_in}, Terms.{value_in_range}, Definite.{FactsFit, args-taken, all-fine, need-inside}, Placed.{few-args}}
-use Rattle.asm_ranges.proofs.{Standing.{SoundRule, SoundTerm, term-sound, sound-If, sound-Forall, sound-Choose, sound-Let}, Stands.{stands-rule, stands-term, sound-args, sound-new, new-faultless, update-taken}}
+use Rattle.asm_ranges.proofs.{Standing.{SoundRule, SoundTerm, at-layer, term-sound, sound-If, sound-Forall, sound-Choose, sound-Let}, Stands.{stands-rule, stands-term, sound-args, sound-new, new-faultless, update-taken}}
 use Rattle.asm_names.specs.declared.resolved_rule.ResolvedRule.TheVariants as rules
 
 -- a binder is bound to a number of its interval
@@ -77,6 +78,10 @@ module _ (program : Resolved) (state inputs : List ℤ) where
           let f = (args-taken program place.scope r.bound (λ b h. r.sited.same b ∙ h) (slice_get program.funs fun) args place.facts (r.at + 2) all r.sited.fit u.0 u.1 u.2).1 state inputs env
           (record { reads = reads_in program state inputs reads; values = placed.values; good = r.sited.good state inputs env reads placed.values placed.known }) in
           subst (λ (o : Option Signature). takes_args o (map (value program state inputs env) args) ≡ true) (sym (slice_get-map (signature_of program.domains) program.funs fun)) f.1
+
+      -- the function of an update may be updated
+      pub changing-Update : (fun : ℕ) (args : List ResolvedTerm) (new : ResolvedTerm) → rule ≡ rules.Update fun args new → may_be_updated (slice_get program.funs fun) ≡ true
+      changing-Update fun args new e = (and_parts _ _ (at-layer program place (ResolvedRule-F.Update fun args new) _ (rules.rolls-Update fun args new) (sound-as (rules.Update fun args new) e)).0).0
 
       -- the terms of an update, its at most three arguments, whose values the function takes, and its value, which lies in the codomain
       pub placed-Update : (fun : ℕ) (args : List ResolvedTerm) (new : ResolvedTerm) → rule ≡ rules.Update fun args new

@@ -140,7 +140,7 @@ cut_by_facts signatures scope atom (fact ∷ outer) found = cut_by_fact signatur
 
 -- ---- refined ranges
 
--- where a binder's interval begins: as its `let` bound it, and else as it is in scope
+-- a binder's interval before any cut: what its `let` bound it to, or else its plain range
 abbrev pub begun : Scope → ℕ → Facts → Interval
 begun scope binder [] = binder_range scope binder
 begun scope binder (Held guard ∷ outer) = begun scope binder outer

@@ -1,4 +1,4 @@
--- The least and the greatest value of each term, whatever guards stand around it, and what fits such intervals.
+-- Plain ranges: bounds of the value of each defined term, whatever guards stand around it, and what fits such intervals.
 use Rattle.std.specs.Prelude.{ℕ, ℤ, pos, negsuc, ◌+ℤ◌, ◌-ℤ◌, Bool, true, ◌&&◌, ◌==◌, List, int_le, slice_index_or, slice_get, if◌then◌else◌, Option, Some, None, is_some, IfSome}
 use Rattle.std.specs.{List.{list_all, AllZip, AllByRecursion}, Option.{unwrap_or}, Int.{int_min, int_max}}
 use Rattle.asm_tree.specs.declared.{decl.Kind.{Kind}, term.Op.{Op}}
@@ -94,7 +94,7 @@ sums_fit signatures scope = para-ResolvedTerm Bool (sums_fit_by signatures scope
 abbrev pub EnvFits : Scope → List ℤ → Type 0
 EnvFits scope env = (binder : ℕ) → IfSome (scope binder) (λ interval. In interval (slice_index_or env binder (pos 0)))
 
--- the same of a static function's table
+-- each value of a static function's table lies in its codomain
 abbrev pub TableFits : Signature → List ℤ → Type 0
 TableFits signature table = AllZip (λ args value. In (whole signature.codomain) value) (tuples signature.args) table
 

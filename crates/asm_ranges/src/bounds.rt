@@ -2,19 +2,17 @@
 
 ghost use Rattle.std.specs.Prelude.{◌≡◌};
 ghost use Rattle.state_space.specs.Locations.{signatures_of};
-ghost use Rattle.asm_ranges.specs.{Ranges.{range}, Rows.{known, program_intervals}, Places.{Place, Stands, StandsTerm}};
+ghost use Rattle.asm_ranges.specs.{Ranges.{range}, Places.{Place, Stands, StandsTerm}};
 
 use crate::checked::Checked;
 use crate::context::Context;
 use crate::plain::RangeChecker;
 use asm_names::{Interval, ResolvedTerm};
 
-/// The plain range of a term that stands in the program: 0 to 1 for a truth value. Its binders have the intervals that the
-/// program has of them, which are those where the term stands. The call takes no memory; its recursion is as deep as the term.
+/// The plain range of a term that stands in the program, wherever it stands: 0 to 1 for a truth value. The call takes no memory; its recursion is as deep as the term.
 pub fn interval(checked: &Checked, term: &ResolvedTerm) -> Interval
     requires { Stands checked.now term.now }
-    ensures range { result ≡ range (signatures_of checked.now) (known (program_intervals checked.now)) term.now }
-    ensures there { (place : Place) → StandsTerm checked.now term.now place → result ≡ range (signatures_of checked.now) place.scope term.now }
+    ensures { (place : Place) → StandsTerm checked.now term.now place → result ≡ range (signatures_of checked.now) place.scope term.now }
 {
     let resolved = checked.resolved();
     let checker = RangeChecker {

@@ -1,7 +1,7 @@
 -- A step keeps the values of locations in their codomains.
 use Rattle.std.proofs.Common.{◌≡◌, ℕ, zero, suc, ◌<◌, ℤ, Bool, true, false, cond, List, [], ◌∷◌, ◌++◌, map, length, get_or, set, Option, Some, None, refl, sym, subst, arith}
 use Rattle.std.specs.Prelude.{slice_get, slice_set, if◌then◌else◌}
-use Rattle.std.specs.List.{flat_map, filter, All, AllByRecursion, AllZip}
+use Rattle.std.specs.List.{filter, All, AllByRecursion, AllZip}
 use Rattle.std.proofs.lemmas.Bool.{and_parts, eqb-true}
 use Rattle.std.proofs.lemmas.List.Quantifiers.{position-Some}
 use Rattle.asm_names.proofs.Known.{all-append}
@@ -13,15 +13,15 @@ use Rattle.asm_names.specs.declared.resolved_rule.ResolvedRule.TheVariants as ru
 use Rattle.asm_names.specs.declared.resolved_rule.ResolvedRule.TheViews.{roll-ResolvedRule}
 use Rattle.asm_names.specs.declared.resolved_rule.ResolvedRule.TheFolds.{ind-ResolvedRule, map-ResolvedRule}
 use Rattle.state_space.specs.declared.signature.Signature.{Signature}
-use Rattle.state_space.specs.declared.update.Update.{Update}
-use Rattle.state_space.specs.Locations.{Location, elements, same_location, place_among, state_locations, signatures_of, range_of}
+use Rattle.state_space.specs.Locations.{Location, elements, no_location, same_location, place_among, state_locations, signatures_of, range_of}
 use Rattle.asm_ranges.specs.{Keeping.{IsChecked}, Ranges.{ReadsFit, domain_interval}}
 use Rattle.state_space.specs.Codomains.{In, codomain_range, LocationsFit}
 use Rattle.asm_ranges.specs.Places.{RulePlaced, RulesPlaced}
 use Rattle.std.specs.Bool.{MatchBool}
 use Rattle.asm_ranges.specs.Values.{State, Inputs, Env, value, holds}
 use Rattle.asm_ranges.proofs.{PlacedRules.{placed-then, placed-else, placed-Par, placed-Forall, placed-Choose, placed-Let, placed-write}, Stands.{contained}}
-use Rattle.update_sets.specs.Yields.{Updates, update_at, written, passing, any_of, Joined, YieldsLayer, YieldsWith, Yields}
+use Rattle.update_sets.specs.Fitting.{FitsLocation}
+use Rattle.update_sets.specs.Yields.{Updates, update_at, passing, any_of, Joined, YieldsLayer, Yields}
 use Rattle.update_sets.specs.Least.{least}
 use Rattle.update_sets.proofs.Choices.{yields_roll, least_is_yielded, least_is_any}
 use Rattle.state_space.specs.Firing.{all_agree, overwritten, fired}
@@ -34,18 +34,11 @@ module _ (program : Resolved) (state : State) (inputs : Inputs) (checked : IsChe
   abbrev locations : List Location
   locations = state_locations signatures
 
-  abbrev nowhere : Location
-  nowhere = record { fun = 0; args = [] }
-
-  -- an update's place is there, and its value lies in the codomain
-  abbrev Fit : Update → Type 0
-  Fit u = (u.place < length locations) × In (codomain_range (slice_get signatures (get_or locations u.place nowhere).fun)) u.value
-
   abbrev AllFit : Updates → Type 0
-  AllFit us = AllByRecursion Fit us
+  AllFit us = AllByRecursion (FitsLocation program) us
 
   both : (us vs : Updates) → AllFit us → AllFit vs → AllFit (us ++ vs)
-  both us vs p q = all-append Fit us vs p q
+  both us vs p q = all-append (FitsLocation program) us vs p q
 
   joined : {A : Type 0} (P : A → Type 0) (f : A → Updates → Type 0) (xs : List A) (us : Updates) → AllByRecursion P xs → ((x : A) → P x → (vs : Updates) → f x vs → AllFit vs) → Joined f xs us → AllFit us
   joined P f [] us all h e = subst AllFit (sym e) tt
@@ -71,8 +64,8 @@ module _ (program : Resolved) (state : State) (inputs : Inputs) (checked : IsChe
   writes : (fun : ℕ) (args : List ℤ) (v : ℤ) (o : Option ℕ) → place_among locations (record { fun = fun; args = args }) ≡ o → In (codomain_range (slice_get signatures fun)) v → AllFit (update_at o v)
   writes fun args v None e h = tt
   writes fun args v (Some k) e h =
-      let p = position-Some (same_location (record { fun = fun; args = args })) locations k nowhere e in
-      let same : fun ≡ (get_or locations k nowhere).fun = eqb-true _ _ (and_parts _ _ p.1).0 in
+      let p = position-Some (same_location (record { fun = fun; args = args })) locations k no_location e in
+      let same : fun ≡ (get_or locations k no_location).fun = eqb-true _ _ (and_parts _ _ p.1).0 in
       ((p.0, subst (λ f. In (codomain_range (slice_get signatures f)) v) same h), tt)
 
   abbrev Made : ResolvedRule → Env → Updates → Type 0
@@ -139,7 +132,7 @@ module _ (program : Resolved) (state : State) (inputs : Inputs) (checked : IsChe
       yields_fit rule env placed (least program state inputs rule env)
       (least_is_any program state inputs rule env (least program state inputs rule env) (least_is_yielded program state inputs rule env))
 
-  set-fits : (R : Location → ℤ → Type 0) (ls : List Location) (vs : List ℤ) (k : ℕ) (v : ℤ) → AllZip R ls vs → k < length ls → R (get_or ls k nowhere) v → AllZip R ls (set vs k v)
+  set-fits : (R : Location → ℤ → Type 0) (ls : List Location) (vs : List ℤ) (k : ℕ) (v : ℤ) → AllZip R ls vs → k < length ls → R (get_or ls k no_location) v → AllZip R ls (set vs k v)
   set-fits R [] vs k v z h r = absurd (omega arith)
   set-fits R (l ∷ ls) [] k v z h r = absurd z
   set-fits R (l ∷ ls) (w ∷ vs) zero v z h r = (r, z.1)
@@ -159,6 +152,12 @@ module _ (program : Resolved) (state : State) (inputs : Inputs) (checked : IsChe
   -- the state after updates that fit does
   pub fired_fits : (us : Updates) → AllFit us → StateFits (fired state us)
   fired_fits us fit = firing (all_agree us) us fit
+
+  -- each update fits its location
+  pub fit_all : (us : Updates) → AllFit us → All (FitsLocation program) us
+  fit_all [] fit k d h = absurd (omega arith)
+  fit_all (u ∷ us) fit zero d h = fit.0
+  fit_all (u ∷ us) fit (suc k) d h = fit_all us fit.1 k d (omega arith)
 
   -- each update has a place of the state
   pub fit_placed : (us : Updates) → AllFit us → All (λ u. u.place < length locations) us

@@ -1,21 +1,18 @@
 -- What holds where no binder is bound.
-use Rattle.std.proofs.Common.{◌≡◌, ℕ, zero, suc, ◌<◌, ℤ, pos, true, List, [], ◌++◌, length, replicate, get_or, Option, Some, None, refl, sym, ap, ◌∙◌, subst}
+use Rattle.std.proofs.Common.{◌≡◌, ◌<◌, ℤ, pos, List, [], ◌++◌, length, Option, Some, refl, sym, ap, ◌∙◌, subst}
 use Rattle.std.proofs.Math.ListN.{length-replicate}
-use Rattle.std.specs.Prelude.{IfSome, MatchOption, slice_index_or}
 use Rattle.std.proofs.lemmas.Slice.Zip.{AllZip-long}
 use Rattle.asm_names.specs.declared.resolved_term.ResolvedTerm.{ResolvedTerm}
 use Rattle.std.specs.List.{All}
 use Rattle.asm_names.specs.declared.program.Resolved.{Resolved}
 use Rattle.state_space.specs.declared.signature.Signature.{Signature}
 use Rattle.state_space.specs.Locations.{state_locations, signatures_of}
-use Rattle.asm_names.specs.declared.program.Interval.{Interval}
-use Rattle.state_space.specs.Codomains.{In, LocationsFit}
 use Rattle.asm_ranges.specs.{Keeping.{IsChecked}, Places.{RulePlaced, TermPlaced}, Ranges.{ReadsFit}}
 use Rattle.asm_ranges.proofs.PlacedRules.{placed-program, placed-legal}
 use Rattle.state_space.specs.Firing.{fired}
-use Rattle.update_sets.specs.Fitting.{Fitting}
+use Rattle.update_sets.specs.Fitting.{Fitting, FitsLocation}
 use Rattle.update_sets.specs.Readable.{Readable}
-use Rattle.update_sets.proofs.Keeps.{fired_fits, fit_placed, yields_fit}
+use Rattle.update_sets.proofs.Keeps.{fired_fits, fit_all, fit_placed, yields_fit}
 use Rattle.update_sets.specs.Least.{least}
 use Rattle.update_sets.specs.Steps.{unbound, Step, StepLeast}
 use Rattle.update_sets.specs.Yields.{Updates, Yields, YieldsLeast}
@@ -51,6 +48,13 @@ yielded_placed program space state inputs us r y =
     subst (λ n. All (λ u. u.place < n) us) (sym (AllZip-long _ (state_locations (signatures_of program)) state r.reads.states))
     (fit_placed program state inputs r.checked r.reads us
     (yields_fit program state inputs r.checked r.reads program.rule (unbound program) (start_placed program state inputs (unbound program) r.checked r.reads refl) us y))
+
+-- and its values lie in their codomains
+pub yielded_values : (program : Resolved) (space : List Signature) (state inputs : List ℤ) (us : Updates) → Readable program space state inputs → Yields program state inputs program.rule (unbound program) us
+    → All (FitsLocation program) us
+yielded_values program space state inputs us r y =
+    fit_all program state inputs r.checked r.reads us
+    (yields_fit program state inputs r.checked r.reads program.rule (unbound program) (start_placed program state inputs (unbound program) r.checked r.reads refl) us y)
 
 -- what fits still does after what the program may yield
 pub yielded_fits : (program : Resolved) (space : List Signature) (state inputs : List ℤ) (us : Updates) → Readable program space state inputs → Yields program state inputs program.rule (unbound program) us

@@ -23,11 +23,8 @@ in_row c =
     let is = rw (c.as_slice.ensures, c.as_slice-2.ensures, c.resolved-resolved.ensures.program) at c.plain.ensures.is in
     is ∙ ap (λ scope. range (signatures_of c.args.checked.now) scope c.args.term.now) (scope-row _ ∙ ap known (c.as_slice-3.ensures ∙ rw c.resolved-resolved.ensures.program c.resolved-resolved.ensures.checked.intervals))
 
-pub returns-clause-range : goal.returns-clause-range
-returns-clause-range c = in_row c
-
-pub returns-clause-there : goal.returns-clause-there
-returns-clause-there c place stands =
+pub returns : goal.returns
+returns c place stands =
     let program = c.args.checked.now in
     let checked = c.resolved-resolved.ensures.checked in
     let sums = (term-sound program c.args.term.now place (stands-term program checked c.args.term.now place stands)).0 in
