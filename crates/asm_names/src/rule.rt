@@ -3,13 +3,13 @@
 ghost use Rattle.std.specs.Prelude.{◌≡◌, Some, length, map, IfOk};
 ghost use Rattle.asm_names.specs.declared.fault.NameFault.TheVariants as causes;
 ghost use Rattle.asm_names.specs.declared.sort.Need.TheVariants as needs;
-ghost use Rattle.asm_names.specs.Faults.{Judges, fault};
+ghost use Rattle.asm_names.specs.Faults.{Finds, fault};
 ghost use Rattle.asm_names.specs.Meanings.{meaning_of, number_of};
 ghost use Rattle.asm_names.specs.RuleFaults.{is_fixed, target_faults, target_need, target_sorts};
 ghost use Rattle.asm_names.specs.Rules as spec;
 ghost use Rattle.asm_names.specs.Table.{scope};
 
-use crate::fault::{NameEnd, NameFault};
+use crate::fault::{NameEnd, NameFault, PlacedFault};
 use crate::resolved_rule::{ResolvedRule, ResolvedRules};
 use crate::resolved_term::ResolvedTerm;
 use crate::sort::{Need, Sort};
@@ -21,12 +21,12 @@ use std::alloc::{AllocError, Global};
 
 // Only controlled and output functions may be updated.
 #[tactic(auto, unfolding(crate::specs::Faults::first_end))]
-fn check_kind(kind: Kind, token: u32) -> Result<(), NameEnd>
-    ensures { Judges (fault causes.NotUpdatable token (is_fixed kind)) result (λ _. Unit {0}) }
+fn check_kind(kind: Kind, token: u32) -> Result<(), PlacedFault>
+    ensures { Finds (fault causes.NotUpdatable token (is_fixed kind)) result (λ _. Unit {0}) }
 {
     match kind {
         Kind::Controlled | Kind::Output => Ok(()),
-        Kind::Input | Kind::Static => Err(NameEnd::at(token, NameFault::NotUpdatable)),
+        Kind::Input | Kind::Static => Err(PlacedFault::at(token, NameFault::NotUpdatable)),
     }
 }
 
@@ -37,8 +37,8 @@ fn find_target<'a>(
     name: &Name,
     count: usize,
     token: u32,
-) -> Result<(u32, &'a [Sort], Sort), NameEnd>
-    ensures { Judges (target_faults (meaning_of (scope table.now) name.now) count token) result
+) -> Result<(u32, &'a [Sort], Sort), PlacedFault>
+    ensures { Finds (target_faults (meaning_of (scope table.now) name.now) count token) result
         (λ target. (number_of (meaning_of (scope table.now) name.now) ≡ target.0)
         × (target_sorts (meaning_of (scope table.now) name.now) ≡ map Some target.1.now)
         × (target_need (meaning_of (scope table.now) name.now) ≡ needs.Only target.2)
@@ -53,7 +53,7 @@ fn find_target<'a>(
         },
     ) = table.find(name)
     else {
-        return Err(NameEnd::at(token, NameFault::Unknown));
+        return Err(PlacedFault::at(token, NameFault::Unknown));
     };
     check_count(args.len(), count, token)?;
     check_kind(*kind, token)?;
