@@ -15,10 +15,14 @@ loop-number-preserved g c =
     let number = c.loop-number.number in
     let whole = c.args.out.now.items ++ lines_text (ram_lines count 0 start end) in
     elim c.if-word.branch [
-      | then-word+in_ok-put_ram_word w ↦
-          (rw (w.out-is, w.in_ok-put_ram_word.ensures.ok, c.word-word.ensures)
-          (written-changed count number start end out whole c.loop-number-test.true c.loop-number.invariant.0 (λ same. w.if-word.true cc)), rw (w.out-is, w.in_ok-put_ram_word.ensures.ok) (begun_more out _ _ c.loop-number.invariant.1))
-      | else-word w ↦
-          (rw w.out-is
-          (written-same count number start end out whole c.loop-number-test.true c.loop-number.invariant.0 cc), rw w.out-is c.loop-number.invariant.1)
+      | then-word+in_ok-put_ram_word w ↦ (
+        rw (w.out-is, w.in_ok-put_ram_word.ensures.ok, c.word-word.ensures)
+            (written-changed count number start end out whole c.loop-number-test.true c.loop-number.invariant.0 (λ same. w.if-word.true cc)),
+        rw (w.out-is, w.in_ok-put_ram_word.ensures.ok) (begun_more out _ _ c.loop-number.invariant.1),
+      )
+      | else-word w ↦ (
+        rw w.out-is
+            (written-same count number start end out whole c.loop-number-test.true c.loop-number.invariant.0 cc),
+        rw w.out-is c.loop-number.invariant.1,
+      )
     ]
