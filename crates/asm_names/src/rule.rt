@@ -87,6 +87,7 @@ impl Walk {
     ghost use Rattle.std.specs.Option.{option_map};
     ghost use Rattle.asm_tree.specs.declared.rule.Rule.{Rule-F};
     ghost use Rattle.asm_names.specs.Faults.{Judges};
+    ghost use Rattle.asm_names.specs.declared.resolved_rule.ResolvedRule.TheVariants as resolved_rules;
     ghost use Rattle.asm_names.specs.JudgingRules.{JudgesRule, JudgesRuleLayer, Passes, faulty, made, rule_layer_binders, rule_layer_tokens};
     ghost use Rattle.asm_names.specs.Meanings.{meaning_of};
     ghost use Rattle.asm_names.specs.Places.{else_tokens, led, legal_tokens, option_sum, rule_binders, rule_tokens, term_tokens, with_tokens};
@@ -127,12 +128,13 @@ impl Walk {
     }
 
     // `skip`
-    fn skip(&mut self) -> Result<ResolvedRule, NameEnd>
+    fn skip(&mut self) -> ResolvedRule
         requires { self.old.place + 1 < 2 ^ 32 }
-        ensures { JudgesRuleLayer Rule-F.Skip self.old result self.new }
+        ensures rule { result ≡ resolved_rules.Skip }
+        ensures passes { Passes 1 0 self.old self.new }
     {
         self.place += 1;
-        Ok(ResolvedRule::Skip)
+        ResolvedRule::Skip
     }
 
     // `name ( term , term ) := value`
@@ -385,7 +387,7 @@ impl Walk {
         ensures { JudgesRule rule.now self.old result self.new }
     {
         match rule {
-            Rule::Skip => self.skip(),
+            Rule::Skip => Ok(self.skip()),
             Rule::Update { name, args, value } => self.update(alloc, name, args, value),
             Rule::If {
                 guard,

@@ -90,11 +90,12 @@ impl Table {
         }
     }
 
-    /// Puts a name that isn't known behind the others.
+    /// Puts a name that isn't known behind the others. Where there is no memory for it, the names are as before.
     pub fn add(&mut self, alloc: Global, name: &Name, entry: Entry) -> Result<(), NameEnd>
         requires { meaning_of (scope self.old) name.now ≡ None }
         ensures added { OnOk result (scope self.new ≡ scope self.old ++ (name.now, known entry) ∷ []) }
         ensures memory { OnErr result (result ≡ Err NameEnd.NoMemory) }
+        ensures refused { OnErr result (scope self.new ≡ scope self.old) }
     {
         let key = Vec::from_slice(alloc, name.bytes())?;
         self.entries.insert(key, entry)?;

@@ -1,6 +1,6 @@
 //! Terms. `place` is the number of the next token.
 
-ghost use Rattle.std.specs.Prelude.{◌≡◌, [], ℕ, ◌+◌, ◌++◌, ◌^◌, ◌<◌, cond, length, map, slice_get, Some};
+ghost use Rattle.std.specs.Prelude.{◌≡◌, ℕ, pos, ◌+◌, ◌++◌, ◌^◌, ◌<◌, cond, length, map, slice_get, Some};
 ghost use Rattle.std.specs.Option.{option_copied, option_map};
 ghost use Rattle.asm_tree.specs.declared.term.Term.{Term, Term-F};
 ghost use Rattle.asm_tree.specs.declared.term.Term.TheFolds.{map-Term};
@@ -82,9 +82,11 @@ pub(crate) fn check_count(arity: usize, count: usize, token: u32) -> Result<(), 
 }
 
 // A number.
-fn number(place: &mut u32, value: u32, need: Need) -> Result<ResolvedTerm, NameEnd>
+#[tactic(auto, unfolding(crate::specs::Faults::first_end))]
+fn number(place: &mut u32, value: u32, need: Need) -> Result<ResolvedTerm, PlacedFault>
     requires { place.old + 1 < 2 ^ 32 }
-    ensures { JudgesLayer [] (Term-F.Number value) need place.old result place.new }
+    ensures { Finds (fault causes.Sort place.old (sorts.refuses need (Some Sort.Int))) result
+        (λ n. (n ≡ resolved_terms.Number (pos value)) × (place.new ≡ place.old + 1)) }
 {
     check_sort(need, Some(Sort::Int), *place)?;
     *place += 1;
@@ -363,7 +365,7 @@ pub(crate) fn term(
     ensures { JudgesTerm (scope table.now) term.now need place.old result place.new }
 {
     match term {
-        Term::Number(value) => number(place, *value, need),
+        Term::Number(value) => Ok(number(place, *value, need)?),
         Term::Apply { name, args } => apply(alloc, table, place, name, args, need),
         Term::Binary { op, left, right } => { binary(alloc, table, place, *op, left, right, need) }
         Term::Not(inner) => negation(alloc, table, place, inner, need),
