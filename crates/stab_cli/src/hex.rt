@@ -1,22 +1,23 @@
 //! The mode `hex`: from a job to the Intel HEX file of its words.
 
-ghost use Rattle.std.specs.Prelude.{◌≤◌, IfOk, length};
-ghost use Rattle.stab_cli.specs.Outcome.{Answers};
-ghost use Rattle.stab_cli.specs.declared.mode.Mode.TheVariants.{Hex};
+ghost use Rattle.std.specs.Prelude.{◌≤◌, length};
+ghost use Rattle.image_files.specs.HexText.{hex_text};
+ghost use Rattle.stab_cli.specs.ImageJob.{job_words};
+ghost use Rattle.stab_cli.specs.Stages.{IsVerdictOn, Judges};
+ghost use Rattle.stab_cli.specs.Verdict.{IsTextOf};
 
 use crate::image_words::job_words;
-use crate::outcome::Outcome;
+use crate::job_end::JobEnd;
 use crate::top_call::MAX_INPUT;
 use image_files::write_hex;
-use std::alloc::{AllocError, Global};
+use stab_io::Bytes;
+use std::alloc::Global;
 
-/// What `hex` answers to a job. Err where memory runs out.
-pub fn decide(alloc: Global, bytes: &[u8]) -> Result<Outcome, AllocError>
+/// What `hex` answers to a job.
+pub fn text(alloc: Global, bytes: &[u8]) -> Result<Bytes, JobEnd>
     requires { length bytes.now ≤ MAX_INPUT }
-    ensures { IfOk result (λ outcome. Answers Hex bytes.now outcome) }
+    ensures { Judges (IsVerdictOn (job_words bytes.now)) (IsTextOf hex_text (job_words bytes.now)) result }
 {
-    match job_words(alloc, bytes)? {
-        Ok(words) => Ok(Outcome::Accepted(write_hex(alloc, &words)?)),
-        Err(refusal) => Ok(Outcome::Refused(refusal)),
-    }
+    let words = job_words(alloc, bytes)?;
+    Ok(write_hex(alloc, &words)?)
 }
