@@ -1,7 +1,7 @@
 //! The operands of instructions as text, each text with a space before it: one function for each form. Each call appends
 //! the whole text or, where no memory is left, nothing.
 
-ghost use Rattle.std.specs.Prelude.{◌≡◌, ◌∷◌, ◌++◌, OnOk, OnErr};
+ghost use Rattle.std.specs.Prelude.{◌≡◌, ◌∷◌, ◌++◌, IsOk, OnOk, OnErr};
 ghost use Rattle.text_core.specs.WrittenPieces.{text_of};
 ghost use Rattle.text_core.specs.declared.writing.Piece.TheVariants as pieces;
 ghost use Rattle.rv_line.specs.Texts.{branch_text, comma_text, fence_text, immediate_text, jump_text, load_text, register_text, registers_text, shift_text, store_text, upper_text};
@@ -150,7 +150,8 @@ pub fn fence(out: &mut Vec<u8>, rd: Reg, rs1: Reg, imm: Imm12) -> Result<(), All
 
 /// Appends nothing, as for an instruction without operands.
 pub fn bare(_out: &mut Vec<u8>) -> Result<(), AllocError>
-    ensures { _out.new.items ≡ _out.old.items }
+    ensures ok { IsOk result }
+    ensures text { _out.new.items ≡ _out.old.items }
 {
     Ok(())
 }
