@@ -165,6 +165,7 @@ refused 531 4~: 88 4 2
 refused 531 5~: 88 5 2
 refused 531 16~: 88 16 1
 refused 531 18~: 88 18 62
+refused 531 24~: 88 24 1
 refused 531 36~: 88 36 4
 refused 531 68~: 88 68 6
 refused 531 71~: 88 71 1
