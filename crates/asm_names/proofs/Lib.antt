@@ -10,8 +10,8 @@ pub mod Spans
 pub mod RuleSpans
 pub mod ProgramSpans
 pub mod Numbering
-pub mod PlainPrograms
 pub mod ResolvedLevels
+pub mod BinderRows
 pub mod Known
 pub mod WellFormedTerms
 pub mod WellFormedRules

@@ -4,6 +4,7 @@ use Rattle.asm_names.specs.declared.fault.NameFault.{NameFault}
 use Rattle.asm_names.specs.declared.fault.NameFault.TheVariants as causes
 use Rattle.asm_names.specs.declared.fault.NameEnd.{NameEnd}
 use Rattle.asm_names.specs.declared.fault.NameEnd.TheVariants as ends
+use Rattle.asm_names.specs.declared.fault.PlacedFault.{PlacedFault}
 
 -- the number by which a fault is reported
 abbrev pub code_of : NameFault → ℕ
@@ -34,3 +35,8 @@ first_end ((token, cause) ∷ others) = Some (ends.Fault cause token)
 abbrev pub Judges : {T : Type 0} → List Fault → Result T NameEnd → (T → Type 0) → Type 0
 Judges faults (Ok value) P = (faults ≡ []) × P value
 Judges faults (Err e) P = e ≢ ends.NoMemory → first_end faults ≡ Some e
+
+-- A function that takes no memory answers the first fault, or else, where there is none, a value of which P holds.
+abbrev pub Finds : {T : Type 0} → List Fault → Result T PlacedFault → (T → Type 0) → Type 0
+Finds faults (Ok value) P = (faults ≡ []) × P value
+Finds faults (Err e) P = first_end faults ≡ Some (ends.Fault e.fault e.token)

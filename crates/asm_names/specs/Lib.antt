@@ -16,4 +16,5 @@ pub mod JudgingRules
 pub mod Order
 pub mod Declares
 pub mod ResolvedPlaces
+pub mod Binders
 pub mod WellFormed

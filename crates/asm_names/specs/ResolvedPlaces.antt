@@ -1,10 +1,11 @@
 -- How many tokens and binders the text of a resolved term or rule has.
-use Rattle.std.specs.Prelude.{ℕ, ◌+◌, Bool, true, false, sum, map}
+use Rattle.std.specs.Prelude.{ℕ, ◌+◌, Bool, true, false, sum, map, Option, Some, None}
 use Rattle.asm_names.specs.declared.resolved_term.ResolvedTerm.{ResolvedTerm, ResolvedTerm-F}
 use Rattle.asm_names.specs.declared.resolved_term.ResolvedTerm.TheFolds.{fold-ResolvedTerm}
 use Rattle.asm_names.specs.declared.resolved_rule.ResolvedRule.{ResolvedRule, ResolvedRule-F}
 use Rattle.asm_names.specs.declared.resolved_rule.ResolvedRule.TheFolds.{fold-ResolvedRule}
-use Rattle.asm_names.specs.Places.{in_parentheses, led}
+use Rattle.asm_names.specs.declared.program.Resolved.{Resolved}
+use Rattle.asm_names.specs.Places.{in_parentheses, led, decls_tokens}
 
 -- ---- tokens
 
@@ -41,6 +42,15 @@ resolved_rule_tokens_by (ResolvedRule-F.Let binder value body) = 3 + resolved_te
 -- how many tokens the text of a rule has
 unfoldable pub resolved_rule_tokens : ResolvedRule → ℕ
 resolved_rule_tokens = fold-ResolvedRule ℕ resolved_rule_tokens_by
+
+-- a term behind `legal`, if there is one
+abbrev pub resolved_legal_tokens : Option ResolvedTerm → ℕ
+resolved_legal_tokens None = 0
+resolved_legal_tokens (Some legal) = 1 + resolved_term_tokens legal
+
+-- how many tokens the text of a program has
+abbrev pub resolved_program_tokens : Resolved → ℕ
+resolved_program_tokens program = 2 + decls_tokens program.source.decls + resolved_legal_tokens program.legal + 1 + resolved_rule_tokens program.rule
 
 -- ---- binders
 

@@ -5,12 +5,12 @@ ghost use Rattle.std.specs.Option.{option_map};
 ghost use Rattle.asm_names.specs.declared.fault.NameFault.TheVariants as causes;
 ghost use Rattle.asm_names.specs.declared.sort.Need.TheVariants as needs;
 ghost use Rattle.asm_names.specs.DeclFaults as spec;
-ghost use Rattle.asm_names.specs.Faults.{Judges, fault};
+ghost use Rattle.asm_names.specs.Faults.{Finds, fault};
 ghost use Rattle.asm_names.specs.Meanings.{meaning_of, size_of_domain};
 ghost use Rattle.asm_names.specs.Programs.{resolved_const};
 ghost use Rattle.asm_names.specs.Table.{scope};
 
-use crate::fault::{NameEnd, NameFault};
+use crate::fault::{NameEnd, NameFault, PlacedFault};
 use crate::program::{Domain, Fun};
 use crate::sort::{Need, Sort};
 use crate::table::{Entry, Table};
@@ -63,15 +63,15 @@ fn is_far(bound: i64) -> bool
 
 // A range must have values, and not too many of them.
 #[tactic(auto, using(crate::proofs::Firsts::first_rules), unfolding(crate::specs::Faults::first_end))]
-fn check_range(lo: i64, hi: i64, token: u32) -> Result<(), NameEnd>
-    ensures { Judges (fault causes.Empty token (int_lt hi lo) ++ fault causes.TooLarge token (nat_lt 65536 (spec.range_size lo hi) || (spec.is_far lo || spec.is_far hi))) result
+fn check_range(lo: i64, hi: i64, token: u32) -> Result<(), PlacedFault>
+    ensures { Finds (fault causes.Empty token (int_lt hi lo) ++ fault causes.TooLarge token (nat_lt 65536 (spec.range_size lo hi) || (spec.is_far lo || spec.is_far hi))) result
         (λ _. (lo ≤ℤ hi) × (negsuc 1048575 ≤ℤ lo) × (hi ≤ℤ pos 1048576) × (spec.range_size lo hi ≤ 65536)) }
 {
     if hi < lo {
-        return Err(NameEnd::at(token, NameFault::Empty));
+        return Err(PlacedFault::at(token, NameFault::Empty));
     }
     if is_far(lo) || is_far(hi) || hi - lo >= 65536 {
-        return Err(NameEnd::at(token, NameFault::TooLarge));
+        return Err(PlacedFault::at(token, NameFault::TooLarge));
     }
     Ok(())
 }
@@ -88,8 +88,8 @@ fn size_of_range(lo: i64, hi: i64) -> u32
 
 // A constant of a table whose values have this sort.
 #[tactic(auto, unfolding(crate::specs::Faults::first_end))]
-fn find_const(table: &Table, constant: &Const, values: Sort, token: u32) -> Result<i64, NameEnd>
-    ensures { Judges (spec.const_faults (scope table.now) (needs.Only values) constant.now token) result
+fn find_const(table: &Table, constant: &Const, values: Sort, token: u32) -> Result<i64, PlacedFault>
+    ensures { Finds (spec.const_faults (scope table.now) (needs.Only values) constant.now token) result
         (λ value. value ≡ resolved_const (scope table.now) constant.now) }
 {
     match constant {
@@ -102,7 +102,7 @@ fn find_const(table: &Table, constant: &Const, values: Sort, token: u32) -> Resu
                 check_sort(Need::Only(values), Some(Sort::List(*domain)), token)?;
                 Ok(i64::from(*index))
             }
-            _ => Err(NameEnd::at(token, NameFault::Unknown)),
+            _ => Err(PlacedFault::at(token, NameFault::Unknown)),
         },
     }
 }
@@ -130,9 +130,9 @@ fn check_table(
     args: &[Name],
     count: usize,
     token: u32,
-) -> Result<(), NameEnd>
+) -> Result<(), PlacedFault>
     requires { kind ≡ Kind.Static → count < 2 ^ 32 }
-    ensures { Judges (spec.table_faults kind (spec.times_sizes 1 (map (λ name. size_of_domain (meaning_of (scope table.now) name)) args.now)) count token) result
+    ensures { Finds (spec.table_faults kind (spec.times_sizes 1 (map (λ name. size_of_domain (meaning_of (scope table.now) name)) args.now)) count token) result
         (λ _. Unit {0}) }
 {
     if kind != Kind::Static {
@@ -142,7 +142,7 @@ fn check_table(
         return Ok(());
     };
     if product != count as u64 {
-        return Err(NameEnd::at(token, NameFault::Count));
+        return Err(PlacedFault::at(token, NameFault::Count));
     }
     Ok(())
 }

@@ -54,6 +54,24 @@ impl NameFault {
     }
 }
 
+/// A fault at the token with this number. Tokens are counted from 1. It is the error of what takes no memory.
+#[derive(Clone, Copy, Debug, PartialEq, Eq)]
+pub struct PlacedFault {
+    /// What is wrong.
+    pub fault: NameFault,
+    /// Where it is wrong.
+    pub token: u32,
+}
+
+impl PlacedFault {
+    /// The fault at the token with this number.
+    pub(crate) fn at(token: u32, fault: NameFault) -> PlacedFault
+        ensures { result ≡ record { fault = fault; token = token } }
+    {
+        PlacedFault { fault, token }
+    }
+}
+
 /// Why the names of a program aren't resolved.
 #[derive(Clone, Copy, Debug, PartialEq, Eq, Error)]
 pub enum NameEnd {
@@ -71,6 +89,14 @@ impl NameEnd {
         ensures { result ≡ Fault fault token }
     {
         NameEnd::Fault { fault, token }
+    }
+}
+
+impl From<PlacedFault> for NameEnd {
+    ghost from_gives = { λ placed end. end ≡ Fault placed.fault placed.token };
+
+    fn from(placed: PlacedFault) -> NameEnd {
+        NameEnd::at(placed.token, placed.fault)
     }
 }
 

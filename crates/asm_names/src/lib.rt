@@ -2,6 +2,7 @@
 //! numbers, or finds the first fault of its names and sorts.
 #![tactic(auto)]
 
+mod binders;
 mod declarations;
 mod fault;
 mod law;
@@ -15,8 +16,9 @@ mod table;
 mod term;
 mod tokens;
 
-pub use fault::{NameEnd, NameFault};
-pub use law::{plain_programs_are_faultless, resolved_programs_are_well_formed, tokens_are_kept};
+pub use binders::Binder;
+pub use fault::{NameEnd, NameFault, PlacedFault};
+pub use law::{resolved_programs_are_well_formed, tokens_are_kept};
 pub use program::{Domain, Fun, Interval, Resolved};
 pub use resolution::resolve;
 pub use resolved_rule::{ResolvedRule, ResolvedRules};

@@ -4,11 +4,13 @@ ghost use Rattle.std.specs.Prelude.{◌≡◌, [], length};
 ghost use Rattle.std.specs.Option.{option_map};
 ghost use Rattle.std.specs.Coded.{Coded-set};
 ghost use Rattle.std.proofs.Props.{props};
+ghost use Rattle.asm_names.specs.Binders.{kinds_in};
 ghost use Rattle.asm_names.specs.Places.{rule_binders};
 ghost use Rattle.asm_names.specs.Programs.{names_of, program_faults, resolved_domains, resolved_funs};
 ghost use Rattle.asm_names.specs.Rules.{resolved_rule};
 ghost use Rattle.asm_names.specs.Terms.{resolved_term};
 
+use crate::binders::Binder;
 use crate::law::resolved_programs_are_well_formed;
 use crate::resolved_rule::ResolvedRule;
 use crate::resolved_term::ResolvedTerm;
@@ -64,6 +66,8 @@ pub struct Resolved {
     pub funs: Items<Fun>,
     /// How many binders the rule has.
     pub binders: u32,
+    /// What each binder is, by number.
+    pub binder_table: Items<Binder>,
     /// An interval for each binder, from 0 to 0 at first: room for what is found of their values without more memory.
     pub intervals: Items<Interval>,
     /// The term that says which states are legal, where there is one.
@@ -80,6 +84,8 @@ pub struct Resolved {
     pub ghost funs_resolved: { funs ≡ resolved_funs [] source.decls } by { Coded-set funs-code _ _ },
     /// Every binder of the source's rule is counted.
     pub ghost all_binders: { binders ≡ rule_binders source.rule },
+    /// The table has the binders of the rule in the order of the text.
+    pub ghost all_listed: { binder_table ≡ kinds_in rule } by { Coded-set binder_table-code _ _ },
     /// Each binder has an interval.
     pub ghost one_interval_each: { length intervals ≡ binders },
     /// The legal term is the source's, in numbers.
@@ -89,7 +95,10 @@ pub struct Resolved {
 }
 
 impl Resolved {
+    ghost use Rattle.std.specs.Prelude.{◌≡◌, ◌<◌, ℕ, length, Some};
     ghost use Rattle.asm_tree.specs.Programs.{IsProgram};
+    ghost use Rattle.asm_names.specs.Binders.{binder_of};
+    ghost use Rattle.asm_names.specs.declared.binders.Binder.TheVariants.{Element};
     ghost use Rattle.asm_names.specs.Resolving.{Resolves};
     ghost use Rattle.asm_names.specs.WellFormed.{IsWellFormed};
 
@@ -104,5 +113,16 @@ impl Resolved {
     {
         resolved_programs_are_well_formed();
         let _ = self.source.rule();
+    }
+
+    /// What the binder with this number is: the element of a domain, which is there, or the value of a `let`. Takes
+    /// constant time.
+    pub fn binder(&self, number: u32) -> Binder
+        requires { number < self.now.binders }
+        ensures bound { binder_of self.now.rule number ≡ Some result }
+        ensures inside { (domain : ℕ) → result ≡ Element domain → domain < length self.now.domains }
+    {
+        self.comes_from_faultless();
+        self.binder_table.as_slice()[number as usize]
     }
 }

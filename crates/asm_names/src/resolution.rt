@@ -9,6 +9,7 @@ ghost use Rattle.asm_names.specs.DeclFaults.{decls_faults, names_after};
 ghost use Rattle.asm_names.specs.Programs.{program_faults, resolved_domains, resolved_funs};
 ghost use Rattle.asm_names.specs.Resolving.{Resolves};
 
+use crate::binders::binders_of;
 use crate::declarations::Declarations;
 use crate::fault::NameEnd;
 use crate::program::{Interval, Resolved};
@@ -73,12 +74,14 @@ pub fn resolve(alloc: Global, program: &Program) -> Result<Resolved, NameEnd>
     let legal = walk.legal(alloc, program)?;
     walk.place += 1;
     let rule = Boxed::new(alloc, walk.rule(alloc, program.rule())?)?;
+    let binder_table = binders_of(alloc, rule.get())?;
     Ok(Resolved {
         source: program.copy(alloc)?,
         name: program.name().copy(alloc)?,
         domains,
         funs,
         binders: walk.binders,
+        binder_table,
         intervals: no_intervals(alloc, walk.binders)?,
         legal,
         rule,

@@ -3,13 +3,13 @@
 ghost use Rattle.std.specs.Prelude.{◌≡◌, Some, length, map, IfOk};
 ghost use Rattle.asm_names.specs.declared.fault.NameFault.TheVariants as causes;
 ghost use Rattle.asm_names.specs.declared.sort.Need.TheVariants as needs;
-ghost use Rattle.asm_names.specs.Faults.{Judges, fault};
+ghost use Rattle.asm_names.specs.Faults.{Finds, fault};
 ghost use Rattle.asm_names.specs.Meanings.{meaning_of, number_of};
 ghost use Rattle.asm_names.specs.RuleFaults.{is_fixed, target_faults, target_need, target_sorts};
 ghost use Rattle.asm_names.specs.Rules as spec;
 ghost use Rattle.asm_names.specs.Table.{scope};
 
-use crate::fault::{NameEnd, NameFault};
+use crate::fault::{NameEnd, NameFault, PlacedFault};
 use crate::resolved_rule::{ResolvedRule, ResolvedRules};
 use crate::resolved_term::ResolvedTerm;
 use crate::sort::{Need, Sort};
@@ -21,12 +21,12 @@ use std::alloc::{AllocError, Global};
 
 // Only controlled and output functions may be updated.
 #[tactic(auto, unfolding(crate::specs::Faults::first_end))]
-fn check_kind(kind: Kind, token: u32) -> Result<(), NameEnd>
-    ensures { Judges (fault causes.NotUpdatable token (is_fixed kind)) result (λ _. Unit {0}) }
+fn check_kind(kind: Kind, token: u32) -> Result<(), PlacedFault>
+    ensures { Finds (fault causes.NotUpdatable token (is_fixed kind)) result (λ _. Unit {0}) }
 {
     match kind {
         Kind::Controlled | Kind::Output => Ok(()),
-        Kind::Input | Kind::Static => Err(NameEnd::at(token, NameFault::NotUpdatable)),
+        Kind::Input | Kind::Static => Err(PlacedFault::at(token, NameFault::NotUpdatable)),
     }
 }
 
@@ -37,8 +37,8 @@ fn find_target<'a>(
     name: &Name,
     count: usize,
     token: u32,
-) -> Result<(u32, &'a [Sort], Sort), NameEnd>
-    ensures { Judges (target_faults (meaning_of (scope table.now) name.now) count token) result
+) -> Result<(u32, &'a [Sort], Sort), PlacedFault>
+    ensures { Finds (target_faults (meaning_of (scope table.now) name.now) count token) result
         (λ target. (number_of (meaning_of (scope table.now) name.now) ≡ target.0)
         × (target_sorts (meaning_of (scope table.now) name.now) ≡ map Some target.1.now)
         × (target_need (meaning_of (scope table.now) name.now) ≡ needs.Only target.2)
@@ -53,7 +53,7 @@ fn find_target<'a>(
         },
     ) = table.find(name)
     else {
-        return Err(NameEnd::at(token, NameFault::Unknown));
+        return Err(PlacedFault::at(token, NameFault::Unknown));
     };
     check_count(args.len(), count, token)?;
     check_kind(*kind, token)?;
@@ -87,6 +87,7 @@ impl Walk {
     ghost use Rattle.std.specs.Option.{option_map};
     ghost use Rattle.asm_tree.specs.declared.rule.Rule.{Rule-F};
     ghost use Rattle.asm_names.specs.Faults.{Judges};
+    ghost use Rattle.asm_names.specs.declared.resolved_rule.ResolvedRule.TheVariants as resolved_rules;
     ghost use Rattle.asm_names.specs.JudgingRules.{JudgesRule, JudgesRuleLayer, Passes, faulty, made, rule_layer_binders, rule_layer_tokens};
     ghost use Rattle.asm_names.specs.Meanings.{meaning_of};
     ghost use Rattle.asm_names.specs.Places.{else_tokens, led, legal_tokens, option_sum, rule_binders, rule_tokens, term_tokens, with_tokens};
@@ -127,12 +128,13 @@ impl Walk {
     }
 
     // `skip`
-    fn skip(&mut self) -> Result<ResolvedRule, NameEnd>
+    fn skip(&mut self) -> ResolvedRule
         requires { self.old.place + 1 < 2 ^ 32 }
-        ensures { JudgesRuleLayer Rule-F.Skip self.old result self.new }
+        ensures rule { result ≡ resolved_rules.Skip }
+        ensures passes { Passes 1 0 self.old self.new }
     {
         self.place += 1;
-        Ok(ResolvedRule::Skip)
+        ResolvedRule::Skip
     }
 
     // `name ( term , term ) := value`
@@ -385,7 +387,7 @@ impl Walk {
         ensures { JudgesRule rule.now self.old result self.new }
     {
         match rule {
-            Rule::Skip => self.skip(),
+            Rule::Skip => Ok(self.skip()),
             Rule::Update { name, args, value } => self.update(alloc, name, args, value),
             Rule::If {
                 guard,

@@ -1,14 +1,14 @@
 //! The names that are declared or in scope.
 
 ghost use Rattle.std.specs.Prelude.{◌≡◌, ◌-◌, ◌∷◌, ◌++◌, [], None, Some, OnOk, OnErr, length, take};
-ghost use Rattle.asm_names.specs.Faults.{Judges};
+ghost use Rattle.asm_names.specs.Faults.{Finds};
 ghost use Rattle.asm_names.specs.Meanings.{number_of, sort_of_domain};
 ghost use Rattle.asm_names.specs.RuleFaults.{declared_faults, domain_faults};
 ghost use Rattle.std.specs.Option.{option_copied, option_map};
 ghost use Rattle.asm_names.specs.Meanings.{meaning_of};
 ghost use Rattle.asm_names.specs.Table.{scope, known};
 
-use crate::fault::{NameEnd, NameFault};
+use crate::fault::{NameEnd, NameFault, PlacedFault};
 use crate::sort::Sort;
 use asm_tree::{Kind, Name};
 use indexmap::IndexMap;
@@ -68,33 +68,34 @@ impl Table {
 
     /// The fault of a name that is declared or bound at this token, and is already known.
     #[tactic(auto, unfolding(crate::specs::Faults::first_end))]
-    pub fn check_new(&self, name: &Name, token: u32) -> Result<(), NameEnd>
-        ensures { Judges (declared_faults (scope self.now) name.now token) result (λ _. meaning_of (scope self.now) name.now ≡ None) }
+    pub fn check_new(&self, name: &Name, token: u32) -> Result<(), PlacedFault>
+        ensures { Finds (declared_faults (scope self.now) name.now token) result (λ _. meaning_of (scope self.now) name.now ≡ None) }
     {
         if self.find(name).is_some() {
-            return Err(NameEnd::at(token, NameFault::Repeated));
+            return Err(PlacedFault::at(token, NameFault::Repeated));
         }
         Ok(())
     }
 
     /// The number and the sort of the domain with this name.
     #[tactic(auto, unfolding(crate::specs::Faults::first_end))]
-    pub fn find_domain(&self, name: &Name, token: u32) -> Result<(u32, Sort), NameEnd>
-        ensures { Judges (domain_faults (scope self.now) name.now token) result
+    pub fn find_domain(&self, name: &Name, token: u32) -> Result<(u32, Sort), PlacedFault>
+        ensures { Finds (domain_faults (scope self.now) name.now token) result
             (λ domain. (domain.0 ≡ number_of (meaning_of (scope self.now) name.now))
             × (sort_of_domain (meaning_of (scope self.now) name.now) ≡ Some domain.1)) }
     {
         match self.find(name) {
             Some(Entry::Domain { number, sort, .. }) => Ok((*number, *sort)),
-            _ => Err(NameEnd::at(token, NameFault::Unknown)),
+            _ => Err(PlacedFault::at(token, NameFault::Unknown)),
         }
     }
 
-    /// Puts a name that isn't known behind the others.
+    /// Puts a name that isn't known behind the others. Where there is no memory for it, the names are as before.
     pub fn add(&mut self, alloc: Global, name: &Name, entry: Entry) -> Result<(), NameEnd>
         requires { meaning_of (scope self.old) name.now ≡ None }
         ensures added { OnOk result (scope self.new ≡ scope self.old ++ (name.now, known entry) ∷ []) }
         ensures memory { OnErr result (result ≡ Err NameEnd.NoMemory) }
+        ensures refused { OnErr result (scope self.new ≡ scope self.old) }
     {
         let key = Vec::from_slice(alloc, name.bytes())?;
         self.entries.insert(key, entry)?;

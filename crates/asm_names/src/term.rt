@@ -1,6 +1,6 @@
 //! Terms. `place` is the number of the next token.
 
-ghost use Rattle.std.specs.Prelude.{◌≡◌, [], ℕ, ◌+◌, ◌++◌, ◌^◌, ◌<◌, cond, length, map, slice_get, Some};
+ghost use Rattle.std.specs.Prelude.{◌≡◌, ℕ, pos, ◌+◌, ◌++◌, ◌^◌, ◌<◌, cond, length, map, slice_get, Some};
 ghost use Rattle.std.specs.Option.{option_copied, option_map};
 ghost use Rattle.asm_tree.specs.declared.term.Term.{Term, Term-F};
 ghost use Rattle.asm_tree.specs.declared.term.Term.TheFolds.{map-Term};
@@ -10,12 +10,12 @@ ghost use Rattle.asm_names.specs.Sorts as sorts;
 ghost use Rattle.asm_names.specs.Meanings.{meaning_of, sort_of};
 ghost use Rattle.asm_names.specs.Table.{scope, known};
 ghost use Rattle.asm_names.specs.Places.{term_tokens, parted, in_parentheses};
-ghost use Rattle.asm_names.specs.Faults.{fault, Judges};
+ghost use Rattle.asm_names.specs.Faults.{fault, Finds, Judges};
 ghost use Rattle.asm_names.specs.TermFaults.{Part, term_sort, count_faults, each_faults, term_faults_by};
 ghost use Rattle.asm_names.specs.Terms.{resolved_term};
 ghost use Rattle.asm_names.specs.Judging.{JudgesTerm, JudgesLayer, layer_tokens, part};
 
-use crate::fault::{NameEnd, NameFault};
+use crate::fault::{NameEnd, NameFault, PlacedFault};
 use crate::resolved_term::{ResolvedTerm, ResolvedTerms};
 use crate::sort::{Need, Sort};
 use crate::table::{Entry, Table};
@@ -61,30 +61,32 @@ pub(crate) fn sort_of_term(table: &Table, term: &Term) -> Option<Sort>
 
 /// The fault of a term of this sort at this token, where its place refuses the sort.
 #[tactic(auto, unfolding(crate::specs::Faults::first_end))]
-pub(crate) fn check_sort(need: Need, sort: Option<Sort>, token: u32) -> Result<(), NameEnd>
-    ensures { Judges (fault causes.Sort token (sorts.refuses need sort)) result (λ _. Unit {0}) }
+pub(crate) fn check_sort(need: Need, sort: Option<Sort>, token: u32) -> Result<(), PlacedFault>
+    ensures { Finds (fault causes.Sort token (sorts.refuses need sort)) result (λ _. Unit {0}) }
 {
     if need.refuses(sort) {
-        return Err(NameEnd::at(token, NameFault::Sort));
+        return Err(PlacedFault::at(token, NameFault::Sort));
     }
     Ok(())
 }
 
 /// The fault of a name at this token that has `count` terms behind it and takes `arity`.
 #[tactic(auto, unfolding(crate::specs::Faults::first_end))]
-pub(crate) fn check_count(arity: usize, count: usize, token: u32) -> Result<(), NameEnd>
-    ensures { Judges (count_faults (Some arity) count token) result (λ _. Unit {0}) }
+pub(crate) fn check_count(arity: usize, count: usize, token: u32) -> Result<(), PlacedFault>
+    ensures { Finds (count_faults (Some arity) count token) result (λ _. Unit {0}) }
 {
     if arity != count {
-        return Err(NameEnd::at(token, NameFault::Count));
+        return Err(PlacedFault::at(token, NameFault::Count));
     }
     Ok(())
 }
 
 // A number.
-fn number(place: &mut u32, value: u32, need: Need) -> Result<ResolvedTerm, NameEnd>
+#[tactic(auto, unfolding(crate::specs::Faults::first_end))]
+fn number(place: &mut u32, value: u32, need: Need) -> Result<ResolvedTerm, PlacedFault>
     requires { place.old + 1 < 2 ^ 32 }
-    ensures { JudgesLayer [] (Term-F.Number value) need place.old result place.new }
+    ensures { Finds (fault causes.Sort place.old (sorts.refuses need (Some Sort.Int))) result
+        (λ n. (n ≡ resolved_terms.Number (pos value)) × (place.new ≡ place.old + 1)) }
 {
     check_sort(need, Some(Sort::Int), *place)?;
     *place += 1;
@@ -154,9 +156,9 @@ fn pass_name(
     count: usize,
     sort: Option<Sort>,
     need: Need,
-) -> Result<(), NameEnd>
+) -> Result<(), PlacedFault>
     requires { place.old + 1 < 2 ^ 32 }
-    ensures { Judges (count_faults (Some arity) count place.old ++ fault causes.Sort place.old (sorts.refuses need sort)) result
+    ensures { Finds (count_faults (Some arity) count place.old ++ fault causes.Sort place.old (sorts.refuses need sort)) result
         (λ _. place.new ≡ place.old + 1) }
 {
     check_count(arity, count, *place)?;
@@ -363,7 +365,7 @@ pub(crate) fn term(
     ensures { JudgesTerm (scope table.now) term.now need place.old result place.new }
 {
     match term {
-        Term::Number(value) => number(place, *value, need),
+        Term::Number(value) => Ok(number(place, *value, need)?),
         Term::Apply { name, args } => apply(alloc, table, place, name, args, need),
         Term::Binary { op, left, right } => { binary(alloc, table, place, *op, left, right, need) }
         Term::Not(inner) => negation(alloc, table, place, inner, need),

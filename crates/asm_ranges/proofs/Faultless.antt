@@ -1,17 +1,16 @@
 -- What a program without a range fault makes sure of.
-use Rattle.std.proofs.Common.{◌≡◌, ℕ, zero, suc, ◌+◌, ◌*◌, ℤ, true, List, [], ◌∷◌, map, length, Option, Some, None, refl, sym, ap, ◌∙◌, subst, arith, ◌≤◌, Bool}
-use Rattle.std.{proofs.{lemmas.List.{length-map}, Math.ListN.{length-replicate}}, specs.{Prelude.{MatchOption, pos, replicate}, List.{AllByRecursion, AllZip}}}
+use Rattle.std.proofs.Common.{◌≡◌, ℕ, zero, suc, ◌+◌, ◌*◌, ℤ, true, List, [], ◌∷◌, map, length, Some, refl, sym, ap, ◌∙◌, subst, arith, ◌<◌, ◌^◌}
+use Rattle.std.{proofs.{lemmas.List.{length-map}}, specs.{List.{AllByRecursion, AllZip}}}
 use Rattle.asm_tree.specs.declared.decl.{Const.{Const}, Decl.{Decl}, Kind.{Kind}}
-use Rattle.asm_names.specs.declared.{program.{Domain.{Domain}, Fun.{Fun}, Interval.{Interval}, Resolved.{Resolved}}, resolved_term.ResolvedTerm.{ResolvedTerm}}
-use Rattle.asm_names.specs.declared.resolved_rule.ResolvedRule.{ResolvedRule, ResolvedRule-F, fold-ResolvedRule}
+use Rattle.asm_names.specs.declared.{program.{Domain.{Domain}, Fun.{Fun}, Interval.{Interval}, Resolved.{Resolved}}}
 use Rattle.asm_names.specs.{Meanings.{Scope as Names}, Places.{const_tokens}, Programs.{resolved_funs, resolved_const}}
-use Rattle.asm_names.specs.WellFormed.{IsFun, IsWellFormed, sort_of, is_truth, size_of, product, table_length}
-use Rattle.state_space.specs.{Locations.{shape_of, shapes_of, range_of, tuples}, Codomains.{In, just}}
+use Rattle.asm_names.specs.WellFormed.{IsFun, IsWellFormed, size_of, product, table_length}
+use Rattle.state_space.specs.{Locations.{signature_of, range_of, tuples}, Codomains.{In, just}}
 use Rattle.state_space.proofs.Numbers.{length-tuples}
-use Rattle.asm_ranges.specs.Ranges.{TableFits, IfStatic, TablesFit, LegalFits, inside, fits, Scope}
-use Rattle.asm_ranges.specs.RangeFaults.{constants_faults, outside_faults, tables_faults, interval_of, legal_faults, legal_at, range_faults, no_intervals}
-use Rattle.asm_ranges.specs.{Rules.{rule_fits, rule_fits_by, program_fits}, Finding.{IsWord}, Keeping.{Keeps, IsChecked}}
-use Rattle.asm_ranges.proofs.{Intervals.{just-in, inside-in}, SortedTerms.{nil-parts, no-fault, sorted_claim, truth-some}, SortedRules.{named_claim, starts}}
+use Rattle.asm_ranges.specs.Ranges.{TableFits, IfStatic, TablesFit, inside}
+use Rattle.asm_ranges.specs.RangeFaults.{constants_faults, outside_faults, tables_faults, interval_of, range_faults, text_tokens}
+use Rattle.asm_ranges.specs.{FindingRules.{all_words}, Keeping.{Keeps, IsChecked}}
+use Rattle.asm_ranges.proofs.{Intervals.{just-in, inside-in}, Definite.{nil-parts, no-fault}}
 use Rattle.asm_tree.specs.declared.decl.Decl.TheVariants as decls
 use Rattle.asm_tree.specs.declared.decl.Kind.TheVariants as kinds
 
@@ -51,57 +50,27 @@ zipped d [] (v ∷ vs) long all = absurd (omega arith)
 zipped d (t ∷ ts) [] long all = absurd (omega arith)
 zipped d (t ∷ ts) (v ∷ vs) long all = (inside-in (just v) d v all.0 (just-in v), zipped d ts vs (omega arith) all.1)
 
-fun_fits : (ds : List Domain) (f : Fun) (k : Kind) → length f.table ≡ table_length k ds f.args → IfStatic k (AllInside (interval_of ds f.codomain) f.table) → IfStatic k (TableFits (shape_of ds f) f.table)
+fun_fits : (ds : List Domain) (f : Fun) (k : Kind) → length f.table ≡ table_length k ds f.args → IfStatic k (AllInside (interval_of ds f.codomain) f.table) → IfStatic k (TableFits (signature_of ds f) f.table)
 fun_fits ds f kinds.Static long all = zipped (interval_of ds f.codomain) (tuples (map (range_of ds) f.args)) f.table (many ds f.args ∙ sym long) all
 fun_fits ds f _ long all = tt
 
-all_fit : (ds : List Domain) (fs : List Fun) → AllByRecursion (IsFun ds) fs → AllByRecursion (FunInside ds) fs → AllByRecursion (λ f. IfStatic f.kind (TableFits (shape_of ds f) f.table)) fs
+all_fit : (ds : List Domain) (fs : List Fun) → AllByRecursion (IsFun ds) fs → AllByRecursion (FunInside ds) fs → AllByRecursion (λ f. IfStatic f.kind (TableFits (signature_of ds f) f.table)) fs
 all_fit ds [] each all = tt
 all_fit ds (f ∷ fs) each all = (fun_fits ds f f.kind each.0.table all.0, all_fit ds fs each.1 all.1)
 
-tables_fit : (p : Resolved) → IsWellFormed p → p.funs ≡ resolved_funs [] p.source.decls → range_faults p ≡ [] → TablesFit p
+pub tables_fit : (p : Resolved) → IsWellFormed p → p.funs ≡ resolved_funs [] p.source.decls → range_faults p ≡ [] → TablesFit p
 tables_fit p well is none =
     let tables = (nil-parts (tables_faults p.domains p.source.decls p.funs 3) _ none).0 in
     let all = tables_inside p.domains p.source.decls [] 3 (rw is at tables) in
     all_fit p.domains p.funs well.funs (subst (λ (fs : List Fun). AllByRecursion (FunInside p.domains) fs) (sym is) all)
 
-legal_fits : (p : Resolved) → IsWellFormed p → range_faults p ≡ [] → LegalFits p
-legal_fits p well none =
-    let later = nil-parts (tables_faults p.domains p.source.decls p.funs 3) _ none in
-    by p.legal well.legal (nil-parts (legal_faults (shapes_of p) p.legal (legal_at p)) _ later.1).0
-  where
-    by : (o : Option ResolvedTerm) → MatchOption o (Unit {0}) (λ t. is_truth (sort_of p.funs [] t) ≡ true) → legal_faults (shapes_of p) o (legal_at p) ≡ [] → MatchOption o (Unit {0}) (λ t. fits (shapes_of p) [] t ≡ true)
-    by None h k = tt
-    by (Some t) h k = ((sorted_claim p.domains p.funs [] [] [] t (truth-some _ h)).1 (λ b scope. absurd cc)).1 None _ k
-
-few_by : (domains : List Domain) (funs : List Fun) → AllByRecursion (IsFun domains) funs → AllByRecursion (λ shape. length shape.args ≤ 3) (map (shape_of domains) funs)
-few_by domains [] all = tt
-few_by domains (f ∷ funs) all = (omega (arith, length-map f.args (range_of domains), all.0.few), few_by domains funs all.1)
-
-module _ (p q : Resolved) (d : q.domains ≡ p.domains) (f : q.funs ≡ p.funs) where
-  same_by : (x : ResolvedRule-F (Scope → Bool)) (scope : Scope) → rule_fits_by q x scope ≡ rule_fits_by p x scope
-  same_by ResolvedRule-F.Skip scope = refl
-  same_by (ResolvedRule-F.Par rules) scope = refl
-  same_by _ scope = rw (d, f) refl
-
-  same_fits : (r : ResolvedRule) (scope : Scope) → rule_fits q r scope ≡ rule_fits p r scope
-  unfolding rule_fits
-  same_fits r scope = λ i. fold-ResolvedRule (Scope → Bool) (λ x s. same_by x s i) r scope
-
-fits_where_faultless : (p : Resolved) → IsWellFormed p → range_faults p ≡ [] → program_fits p ≡ true
-fits_where_faultless p well none =
-    let later = nil-parts (tables_faults p.domains p.source.decls p.funs 3) _ none in
-    let rule = nil-parts (legal_faults (shapes_of p) p.legal (legal_at p)) _ later.1 in
-    (named_claim p p.rule [] 0 well.rule).2 (replicate p.binders None) (no_intervals p) _ (starts p (no_intervals p) (length-replicate p.binders (just (pos 0)))) rule.1
-
--- a program without a fault is checked once it has the intervals of its binders
-pub kept : (p q : Resolved) → IsWellFormed p → p.funs ≡ resolved_funs [] p.source.decls → range_faults p ≡ [] → Keeps p q → AllByRecursion IsWord q.intervals → IsChecked q
-kept p q well is none keeps words = (
-  same_fits p q keeps.domains keeps.funs q.rule (replicate q.binders None) ∙ rw (keeps.rule, keeps.binders) (fits_where_faultless p well none),
-  rw (keeps.domains, keeps.funs) (few_by p.domains p.funs well.funs),
-  rw (keeps.domains, keeps.funs) (record { all_domains = well.domains; all_funs = well.funs; all_words = words }),
-  rw (keeps.domains, keeps.funs) (tables_fit p well is none),
-  rw (keeps.legal, keeps.domains, keeps.funs) (legal_fits p well none),
-  rw (keeps.domains, keeps.source, keeps.funs, keeps.legal, keeps.rule, keeps.binders) none,
-  rw (keeps.domains, keeps.funs, keeps.rule, keeps.binders) keeps.intervals,
-)
+-- a well-formed program without a range fault is checked once it has the intervals of its binders
+pub kept : (p q : Resolved) → IsWellFormed p → IsWellFormed q → p.funs ≡ resolved_funs [] p.source.decls → range_faults p ≡ [] → Keeps p q → all_words q.intervals ≡ true → text_tokens p < 2 ^ 31 → IsChecked q
+kept p q well other is none keeps words room = record {
+  well_formed = other;
+  tables = rw (keeps.domains, keeps.funs) (tables_fit p well is none);
+  faultless = rw (keeps.domains, keeps.source, keeps.funs, keeps.legal, keeps.rule) none;
+  intervals = rw (keeps.domains, keeps.funs, keeps.rule, keeps.binders) keeps.intervals;
+  words = words;
+  room = rw (keeps.source, keeps.legal, keeps.rule) room;
+}

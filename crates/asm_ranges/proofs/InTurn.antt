@@ -2,8 +2,8 @@
 use Rattle.std.proofs.Common.{◌≡◌, ℕ, zero, suc, ◌+◌, ◌<◌, Bool, true, List, [], ◌∷◌, drop, get_or, length, ap, sym, ◌∙◌, arith, ◌≤◌, false, ltb, ◌++◌, map, refl, add-one, ℤ}
 use Rattle.std.{proofs.lemmas.{Bool.{and_parts, ltb-true, ltb-false}, List.{drop_more}, Option.{slice_get-map, slice_get_read, slice_get_past}}, specs.{List.{list_all}, Prelude.{slice_get, slice_set, replicate, ◌==◌}, Option.{option_map}}}
 use Rattle.asm_names.specs.{declared.{program.{Domain.{Domain}, Fun.{Fun}, Interval.{Interval}}, resolved_term.ResolvedTerm.{ResolvedTerm}}, Places.{parted, in_parentheses, const_tokens}, ResolvedPlaces.{resolved_term_tokens}}
-use Rattle.state_space.specs.{Locations.{range_of, shape_of}, declared.shape.Shape.{Shape}}
-use Rattle.asm_ranges.specs.{RangeFaults.{Row, FaultyTerm, args_faults, faulty_term, term_faults, interval_of, domains_of, constant_faults, constants_faults}, Finding.{shapes_in}}
+use Rattle.state_space.specs.{Locations.{range_of, signature_of}, declared.signature.Signature.{Signature}}
+use Rattle.asm_ranges.specs.{RangeFaults.{FaultyTerm, args_faults, faulty_term, term_faults, interval_of, domains_of, constant_faults, constants_faults}, Contexts.{signatures_in}, Ranges.{Scope}, Facts.{Facts}}
 use Rattle.asm_tree.specs.declared.decl.Const.{Const}
 
 -- a list is filled from its start
@@ -30,20 +30,20 @@ module _ (i : ℕ) (ts : List ResolvedTerm) (t : ResolvedTerm) (there : i < leng
   next : drop i ts ≡ t ∷ drop (i + 1) ts
   next = left-from i ts t there is
 
-  first_of : (domains : List Domain) (ds : List ℕ) (k : ℕ) (x : FaultyTerm) (xs : List FaultyTerm) (at : ℕ)
-      → args_faults (map (range_of domains) (drop k ds)) (x ∷ xs) at
-      ≡ x.1 (option_map (interval_of domains) (slice_get ds k)) at ++ args_faults (map (range_of domains) (drop (suc k) ds)) xs (at + resolved_term_tokens x.0 + 1)
-  first_of domains [] zero x xs at = refl
-  first_of domains [] (suc k) x xs at = refl
-  first_of domains (d ∷ ds) zero x xs at = refl
-  first_of domains (d ∷ ds) (suc k) x xs at = first_of domains ds k x xs at
+  first_of : (domains : List Domain) (ds : List ℕ) (k : ℕ) (x : FaultyTerm) (xs : List FaultyTerm) (facts : Facts) (at : ℕ)
+      → args_faults (map (range_of domains) (drop k ds)) (x ∷ xs) facts at
+      ≡ x.1 facts (option_map (interval_of domains) (slice_get ds k)) at ++ args_faults (map (range_of domains) (drop (suc k) ds)) xs facts (at + resolved_term_tokens x.0 + 1)
+  first_of domains [] zero x xs facts at = refl
+  first_of domains [] (suc k) x xs facts at = refl
+  first_of domains (d ∷ ds) zero x xs facts at = refl
+  first_of domains (d ∷ ds) (suc k) x xs facts at = first_of domains ds k x xs facts at
 
-  pub args-next : (shapes : List Shape) (row : Row) (domains : List Domain) (ds : List ℕ) (at : ℕ)
-      → args_faults (map (range_of domains) (drop i ds)) (map (faulty_term shapes row) (drop i ts)) at
-      ≡ term_faults shapes row t (option_map (interval_of domains) (slice_get ds i)) at
-      ++ args_faults (map (range_of domains) (drop (i + 1) ds)) (map (faulty_term shapes row) (drop (i + 1) ts)) (at + resolved_term_tokens t + 1)
-  args-next shapes row domains ds at =
-      rw next (first_of domains ds i (faulty_term shapes row t) (map (faulty_term shapes row) (drop (i + 1) ts)) at ∙ rw add-one refl)
+  pub args-next : (signatures : List Signature) (scope : Scope) (facts : Facts) (domains : List Domain) (ds : List ℕ) (at : ℕ)
+      → args_faults (map (range_of domains) (drop i ds)) (map (faulty_term signatures scope) (drop i ts)) facts at
+      ≡ term_faults signatures scope t facts (option_map (interval_of domains) (slice_get ds i)) at
+      ++ args_faults (map (range_of domains) (drop (i + 1) ds)) (map (faulty_term signatures scope) (drop (i + 1) ts)) facts (at + resolved_term_tokens t + 1)
+  args-next signatures scope facts domains ds at =
+      rw next (first_of domains ds i (faulty_term signatures scope t) (map (faulty_term signatures scope) (drop (i + 1) ts)) facts at ∙ rw add-one refl)
 
 pub filled : {A : Type 0} (f : A → ℕ) (xs : List A) → false ≡ (length xs == 0) → in_parentheses (map f xs) ≡ 1 + parted (map f xs)
 filled f [] h = absurd cc
@@ -51,13 +51,13 @@ filled f (x ∷ xs) h = refl
 
 -- the domains of a function that is there, and of one that isn't
 pub domains-some : (domains : List Domain) (funs : List Fun) (n : ℕ) (fun : Fun) → true ≡ ltb n (length funs) → fun ≡ get_or funs n fun
-    → domains_of (slice_get (shapes_in domains funs) n) ≡ map (range_of domains) fun.args
+    → domains_of (slice_get (signatures_in domains funs) n) ≡ map (range_of domains) fun.args
 domains-some domains funs n fun there is =
-    ap domains_of (slice_get-map (shape_of domains) funs n ∙ ap (option_map (shape_of domains)) (slice_get_read funs (length funs) n fun refl (omega (arith, ltb-true n (length funs) (sym there))) is))
+    ap domains_of (slice_get-map (signature_of domains) funs n ∙ ap (option_map (signature_of domains)) (slice_get_read funs (length funs) n fun refl (omega (arith, ltb-true n (length funs) (sym there))) is))
 
-pub domains-none : (domains : List Domain) (funs : List Fun) (n : ℕ) → false ≡ ltb n (length funs) → domains_of (slice_get (shapes_in domains funs) n) ≡ []
+pub domains-none : (domains : List Domain) (funs : List Fun) (n : ℕ) → false ≡ ltb n (length funs) → domains_of (slice_get (signatures_in domains funs) n) ≡ []
 domains-none domains funs n past =
-    ap domains_of (slice_get-map (shape_of domains) funs n ∙ ap (option_map (shape_of domains)) (slice_get_past funs n (omega (arith, ltb-false n (length funs) (sym past)))))
+    ap domains_of (slice_get-map (signature_of domains) funs n ∙ ap (option_map (signature_of domains)) (slice_get_past funs n (omega (arith, ltb-false n (length funs) (sym past)))))
 
 module _ (i : ℕ) (ks : List Const) (k : Const) (there : i < length ks) (is : k ≡ get_or ks i k) where
   next_const : drop i ks ≡ k ∷ drop (i + 1) ks

@@ -1,87 +1,105 @@
--- What fits in terms that fit.
-use Rattle.std.proofs.Common.{◌≡◌, ℕ, zero, suc, ◌<◌, ◌≤◌, ℤ, pos, negsuc, true, ◌&&◌, List, [], ◌∷◌, map, length, Option, Some, None, refl, sym, ap, ◌∙◌, arith, w64}
-use Rattle.std.{specs.{Prelude.{slice_get, FitsSigned}, List.{list_all, AllByRecursion}}, proofs.lemmas.{List.{length-map}, Bool.{and_parts}, Int.{ints}}}
+-- The parts of terms that have values.
+use Rattle.std.proofs.Common.{◌≡◌, ℕ, zero, suc, ◌<◌, ◌≤◌, ℤ, pos, negsuc, Bool, true, false, ◌&&◌, List, [], ◌∷◌, map, length, refl, sym, ap, ◌∙◌, arith, w64}
+use Rattle.std.{specs.{Prelude.{slice_get, FitsSigned, if◌then◌else◌}, List.{list_all, AllByRecursion}}, proofs.lemmas.{List.{length-map}, Bool.{and_parts}, Int.{ints}}}
 use Rattle.asm_tree.specs.declared.term.Op.{Op}
 use Rattle.asm_names.specs.declared.{program.{Fun.{Fun}, Resolved.{Resolved}, Interval.{Interval}}, resolved_term.ResolvedTerm.{ResolvedTerm, ResolvedTerm-F, roll-ResolvedTerm, map-ResolvedTerm}}
-use Rattle.state_space.specs.{declared.shape.{Range.{Range}, Shape.{Shape}}, Locations.{shapes_of, shape_of}, Codomains.{In}}
-use Rattle.asm_ranges.specs.{Ranges.{Scope, Part, range, fits, fits_by, words, truths, args_inside, read_fits, sum_fits, binary_range, ReadsFit, FewArgs}, Rules.{TermPlaced, TermsPlaced}, Values.{value, binary}}
-use Rattle.asm_ranges.proofs.{Levels.{judged, fits_at, fits_read}, Intervals.{inside-in, binary-in, truth-in}, Readings.{reads_in}, Terms.{value_in_range}}
+use Rattle.asm_names.specs.WellFormed.{IsFun}
+use Rattle.state_space.specs.{declared.signature.{Range.{Range}, Signature.{Signature}}, Locations.{signatures_of, signature_of, range_of}, Codomains.{In}}
+use Rattle.asm_ranges.specs.{Ranges.{Scope, Part, range, sums_fit, sums_fit_by, words, truths, sum_fits, binary_range, ReadsFit}, Places.{TermPlaced, TermsPlaced}, Values.{value, binary, defined, defined_by, Definite, lie_in, takes_args, holds}}
+use Rattle.asm_ranges.proofs.{Levels.{judged, definite, sums_at, defined_at, sums_read, defined_read}, Intervals.{inside-in, binary-in, truth-in}, Readings.{reads_in}, Terms.{value_in_range}}
 use Rattle.asm_tree.specs.declared.term.Op.TheVariants as ops
 use Rattle.asm_names.specs.declared.resolved_term.ResolvedTerm.TheVariants as terms
 
-as_many : (args : List Interval) (domains : List Range) → args_inside args domains ≡ true → length args ≡ length domains
-as_many [] [] h = refl
-as_many [] (d ∷ ds) h = absurd cc
-as_many (a ∷ args) [] h = absurd cc
-as_many (a ∷ args) (d ∷ ds) h = omega (arith, as_many args ds (and_parts _ _ h).1)
+as-many : (domains : List Range) (vs : List ℤ) → lie_in domains vs ≡ true → length vs ≡ length domains
+as-many [] [] h = refl
+as-many [] (v ∷ vs) h = absurd cc
+as-many (d ∷ ds) [] h = absurd cc
+as-many (d ∷ ds) (v ∷ vs) h = omega (arith, as-many ds vs (and_parts _ _ h).1)
 
--- a function with few domains has as few arguments
-pub few_args : (shapes : List Shape) (fun : ℕ) (args : List Interval) (shape : Shape) → slice_get shapes fun ≡ Some shape → AllByRecursion (λ shape. length shape.args ≤ 3) shapes
-    → args_inside args shape.args ≡ true → length args ≤ 3
-few_args [] fun args shape e few h = absurd cc
-few_args (s ∷ shapes) zero args shape e few h =
-    let is : s ≡ shape = cc in
-    omega (arith, few.0, as_many args shape.args h, ap (λ (t : Shape). length t.args) is)
-few_args (s ∷ shapes) (suc fun) args shape e few h = few_args shapes fun args shape e few.1 h
+pub few-args : (program : Resolved) (funs : List Fun) (fun : ℕ) (vs : List ℤ) → AllByRecursion (IsFun program.domains) funs → takes_args (slice_get (map (signature_of program.domains) funs) fun) vs ≡ true
+    → (length vs ≤ 3) × (fun < length funs)
+few-args program [] fun vs few h = absurd cc
+few-args program (f ∷ funs) zero vs few h = (omega (arith, few.0.few, as-many (map (range_of program.domains) f.args) vs h, length-map f.args (range_of program.domains)), omega arith)
+few-args program (f ∷ funs) (suc fun) vs few h = let r = few-args program funs fun vs few.1 h in (r.0, omega (arith, r.1))
 
-module _ (program : Resolved) (env : List ℤ) (term : ResolvedTerm) (placed : TermPlaced program term env) where
-  abbrev shapes : List Shape
-  shapes = shapes_of program
+module _ (program : Resolved) (state inputs env : List ℤ) (term : ResolvedTerm) (placed : TermPlaced program state inputs term env) where
+  abbrev signatures : List Signature
+  signatures = signatures_of program
 
   abbrev scope : Scope
   scope = placed.scope
 
-  at_layer : (x : ResolvedTerm-F ResolvedTerm) (whole : ResolvedTerm) → term ≡ whole → roll-ResolvedTerm x ≡ whole → fits_by shapes scope (map-ResolvedTerm ResolvedTerm Part (judged shapes scope) x) ≡ true
-  at_layer x whole e r = sym (fits_at x term (r ∙ sym e) shapes scope) ∙ placed.fitting
+  abbrev means : ResolvedTerm → Bool
+  means = defined program state inputs env
 
-  part : (t : ResolvedTerm) → fits shapes scope t ≡ true → TermPlaced program t env
-  part t h = record { scope = scope; fitting = h; values = placed.values }
+  at_layer : (x : ResolvedTerm-F ResolvedTerm) (whole : ResolvedTerm) → term ≡ whole → roll-ResolvedTerm x ≡ whole
+      → (sums_fit_by signatures scope (map-ResolvedTerm ResolvedTerm Part (judged signatures scope) x) ≡ true)
+      × (defined_by program state inputs env (map-ResolvedTerm ResolvedTerm Definite (definite program state inputs env) x) ≡ true)
+  at_layer x whole e r = (sym (sums_at x term (r ∙ sym e) signatures scope) ∙ placed.fitting, sym (defined_at x term (r ∙ sym e) program state inputs env) ∙ placed.definite)
 
-  both : (l r : ResolvedTerm) → (fits shapes scope l && fits shapes scope r) ≡ true → TermPlaced program l env × TermPlaced program r env
-  both l r h = let p = and_parts _ _ h in (part l p.0, part r p.1)
+  part : (t : ResolvedTerm) → sums_fit signatures scope t ≡ true → means t ≡ true → TermPlaced program state inputs t env
+  part t h k = record { scope = scope; values = placed.values; fitting = h; definite = k }
 
-  pub placed-Not : (t : ResolvedTerm) → term ≡ terms.Not t → TermPlaced program t env
-  placed-Not t e = part t (at_layer (ResolvedTerm-F.Not t) _ e (terms.rolls-Not t))
+  both : (l r : ResolvedTerm) → (sums_fit signatures scope l && sums_fit signatures scope r) ≡ true → (means l && means r) ≡ true → TermPlaced program state inputs l env × TermPlaced program state inputs r env
+  both l r h k = let p = and_parts _ _ h in let q = and_parts _ _ k in (part l p.0 q.0, part r p.1 q.1)
 
-  pub placed-Min : (l r : ResolvedTerm) → term ≡ terms.Min l r → TermPlaced program l env × TermPlaced program r env
-  placed-Min l r e = both l r (at_layer (ResolvedTerm-F.Min l r) _ e (terms.rolls-Min l r))
+  pub placed-Not : (t : ResolvedTerm) → term ≡ terms.Not t → TermPlaced program state inputs t env
+  placed-Not t e = let l = at_layer (ResolvedTerm-F.Not t) _ e (terms.rolls-Not t) in part t l.0 l.1
 
-  pub placed-Max : (l r : ResolvedTerm) → term ≡ terms.Max l r → TermPlaced program l env × TermPlaced program r env
-  placed-Max l r e = both l r (at_layer (ResolvedTerm-F.Max l r) _ e (terms.rolls-Max l r))
+  pub placed-Min : (l r : ResolvedTerm) → term ≡ terms.Min l r → TermPlaced program state inputs l env × TermPlaced program state inputs r env
+  placed-Min l r e = let y = at_layer (ResolvedTerm-F.Min l r) _ e (terms.rolls-Min l r) in both l r y.0 y.1
 
-  pub placed-Cond : (g l r : ResolvedTerm) → term ≡ terms.Cond g l r → TermPlaced program g env × TermPlaced program l env × TermPlaced program r env
-  placed-Cond g l r e =
-      let p = and_parts _ _ (at_layer (ResolvedTerm-F.Cond g l r) _ e (terms.rolls-Cond g l r)) in
-      let q = both l r p.1 in
-      (part g p.0, q.0, q.1)
+  pub placed-Max : (l r : ResolvedTerm) → term ≡ terms.Max l r → TermPlaced program state inputs l env × TermPlaced program state inputs r env
+  placed-Max l r e = let y = at_layer (ResolvedTerm-F.Max l r) _ e (terms.rolls-Max l r) in both l r y.0 y.1
 
-  at_Binary : (op : Op) (l r : ResolvedTerm) → term ≡ terms.Binary op l r → ((fits shapes scope l && fits shapes scope r) ≡ true) × (sum_fits op (binary_range op (range shapes scope l) (range shapes scope r)) ≡ true)
-  at_Binary op l r e = and_parts _ _ (at_layer (ResolvedTerm-F.Binary op l r) _ e (terms.rolls-Binary op l r))
+  at_Cond : (g l r : ResolvedTerm) → term ≡ terms.Cond g l r → TermPlaced program state inputs g env × (sums_fit signatures scope l ≡ true) × (sums_fit signatures scope r ≡ true)
+      × ((if holds (value program state inputs env g) then means l else means r) ≡ true)
+  at_Cond g l r e =
+      let y = at_layer (ResolvedTerm-F.Cond g l r) _ e (terms.rolls-Cond g l r) in
+      let p = and_parts _ _ y.0 in
+      let s = and_parts _ _ p.1 in
+      let q = and_parts _ _ y.1 in
+      (part g p.0 q.0, s.0, s.1, q.1)
 
-  pub placed-Binary : (op : Op) (l r : ResolvedTerm) → term ≡ terms.Binary op l r → TermPlaced program l env × TermPlaced program r env
-  placed-Binary op l r e = both l r (at_Binary op l r e).0
+  pub placed-guard : (g l r : ResolvedTerm) → term ≡ terms.Cond g l r → TermPlaced program state inputs g env
+  placed-guard g l r e = (at_Cond g l r e).0
+
+  -- of a `cond` the decided branch alone has a value
+  pub placed-first : (g l r : ResolvedTerm) → term ≡ terms.Cond g l r → holds (value program state inputs env g) ≡ true → TermPlaced program state inputs l env
+  placed-first g l r e h = let p = at_Cond g l r e in part l p.1 (sym (ap (λ b. if b then means l else means r) h) ∙ p.3)
+
+  pub placed-second : (g l r : ResolvedTerm) → term ≡ terms.Cond g l r → holds (value program state inputs env g) ≡ false → TermPlaced program state inputs r env
+  placed-second g l r e h = let p = at_Cond g l r e in part r p.2 (sym (ap (λ b. if b then means l else means r) h) ∙ p.3)
+
+  at_Binary : (op : Op) (l r : ResolvedTerm) → term ≡ terms.Binary op l r
+      → (TermPlaced program state inputs l env × TermPlaced program state inputs r env) × (sum_fits op (binary_range op (range signatures scope l) (range signatures scope r)) ≡ true)
+  at_Binary op l r e =
+      let y = at_layer (ResolvedTerm-F.Binary op l r) _ e (terms.rolls-Binary op l r) in
+      let p = and_parts _ _ y.0 in
+      (both l r p.0 y.1, p.1)
+
+  pub placed-Binary : (op : Op) (l r : ResolvedTerm) → term ≡ terms.Binary op l r → TermPlaced program state inputs l env × TermPlaced program state inputs r env
+  placed-Binary op l r e = (at_Binary op l r e).0
 
   at_Read : (fun : ℕ) (args : List ResolvedTerm) → term ≡ terms.Read fun args
-      → (list_all (fits shapes scope) args ≡ true) × (read_fits (map (range shapes scope) args) (slice_get shapes fun) ≡ true)
-  at_Read fun args e = and_parts _ _ (sym (fits_read shapes scope fun args) ∙ at_layer (ResolvedTerm-F.Read fun args) _ e (terms.rolls-Read fun args))
+      → (list_all (sums_fit signatures scope) args ≡ true) × (list_all means args ≡ true) × (takes_args (slice_get signatures fun) (map (value program state inputs env) args) ≡ true)
+  at_Read fun args e =
+      let y = at_layer (ResolvedTerm-F.Read fun args) _ e (terms.rolls-Read fun args) in
+      let q = and_parts _ _ (sym (defined_read program state inputs env fun args) ∙ y.1) in
+      (sym (sums_read signatures scope fun args) ∙ y.0, q.0, q.1)
 
-  pub placed-Read : (fun : ℕ) (args : List ResolvedTerm) → term ≡ terms.Read fun args → TermsPlaced program args env
-  placed-Read fun args e = record { scope = scope; fitting = (at_Read fun args e).0; values = placed.values }
+  pub placed-Read : (fun : ℕ) (args : List ResolvedTerm) → term ≡ terms.Read fun args → TermsPlaced program state inputs args env
+  placed-Read fun args e = let p = at_Read fun args e in record { scope = scope; values = placed.values; fitting = p.0; definite = p.1 }
 
-  few_at : (args : List ResolvedTerm) (fun : ℕ) (o : Option Shape) → slice_get shapes fun ≡ o → FewArgs program → read_fits (map (range shapes scope) args) o ≡ true → length args ≤ 3
-  few_at args fun None e few h = absurd cc
-  few_at args fun (Some shape) e few h = omega (arith, few_args shapes fun _ shape e few h, length-map args (range shapes scope))
+  -- the function is there, and takes the values of its arguments, which are at most three
+  pub taken-Read : (fun : ℕ) (args : List ResolvedTerm) → term ≡ terms.Read fun args → takes_args (slice_get signatures fun) (map (value program state inputs env) args) ≡ true
+  taken-Read fun args e = (at_Read fun args e).2
 
-  pub few-Read : (fun : ℕ) (args : List ResolvedTerm) → FewArgs program → term ≡ terms.Read fun args → length args ≤ 3
-  few-Read fun args few e = few_at args fun (slice_get shapes fun) refl few (at_Read fun args e).1
+  pub few-Read : (fun : ℕ) (args : List ResolvedTerm) → AllByRecursion (IsFun program.domains) program.funs → term ≡ terms.Read fun args → length args ≤ 3
+  few-Read fun args few e = omega (arith, (few-args program program.funs fun _ few (at_Read fun args e).2).0, length-map args (value program state inputs env))
 
-  there_at : (funs : List Fun) (f : Fun → Shape) (fun : ℕ) (args : List Interval) → read_fits args (slice_get (map f funs) fun) ≡ true → fun < length funs
-  there_at [] f fun args h = absurd cc
-  there_at (x ∷ funs) f zero args h = omega arith
-  there_at (x ∷ funs) f (suc fun) args h = omega (arith, there_at funs f fun args h)
-
-  pub there-Read : (fun : ℕ) (args : List ResolvedTerm) → term ≡ terms.Read fun args → fun < length program.funs
-  there-Read fun args e = there_at program.funs (shape_of program.domains) fun _ (at_Read fun args e).1
+  pub there-Read : (fun : ℕ) (args : List ResolvedTerm) → AllByRecursion (IsFun program.domains) program.funs → term ≡ terms.Read fun args → fun < length program.funs
+  there-Read fun args few e = (few-args program program.funs fun _ few (at_Read fun args e).2).1
 
 fits-words : (v : ℤ) → In words v → FitsSigned w64 v
 fits-words (pos n) h = let low : n ≤ 2147483647 = omega (arith, ints) in record { sfits = omega arith }
@@ -96,12 +114,34 @@ fits-binary ops.Add a b x y h p q = fits-words _ (inside-in _ _ _ h (binary-in o
 fits-binary ops.Sub a b x y h p q = fits-words _ (inside-in _ _ _ h (binary-in ops.Sub a b x y p q))
 fits-binary _ a b x y h p q = fits-truths _ (truth-in _)
 
+-- the value of two numbers with an operator between them is one of 32 bits
+pub word-binary : (op : Op) (a b : Interval) (x y : ℤ) → sum_fits op (binary_range op a b) ≡ true → In a x → In b y → In words (binary op x y)
+word-binary ops.Add a b x y h p q = inside-in _ _ _ h (binary-in ops.Add a b x y p q)
+word-binary ops.Sub a b x y h p q = inside-in _ _ _ h (binary-in ops.Sub a b x y p q)
+word-binary _ a b x y h p q = inside-in truths words _ refl (truth-in _)
+
 module _ (program : Resolved) (state inputs env : List ℤ) (reads : ReadsFit program state inputs) where
-  -- the sum in a term that fits passes no 64 bits
-  pub binary-fits : (term : ResolvedTerm) (op : Op) (l r : ResolvedTerm) → TermPlaced program term env → term ≡ terms.Binary op l r
-      → FitsSigned w64 (binary op (value program state inputs env l) (value program state inputs env r))
-  binary-fits term op l r placed e =
-      let p = at_Binary program env term placed op l r e in
-      let q = and_parts _ _ p.0 in
+  -- the value of a term lies in its plain range
+  pub placed-in : (term : ResolvedTerm) (placed : TermPlaced program state inputs term env) → In (range (signatures_of program) placed.scope term) (value program state inputs env term)
+  placed-in term placed = value_in_range program state inputs env placed.scope (reads_in program state inputs reads) placed.values term placed.fitting placed.definite
+
+  sides : (term : ResolvedTerm) (op : Op) (l r : ResolvedTerm) (placed : TermPlaced program state inputs term env) → term ≡ terms.Binary op l r
+      → (sum_fits op (binary_range op (range (signatures_of program) placed.scope l) (range (signatures_of program) placed.scope r)) ≡ true)
+      × In (range (signatures_of program) placed.scope l) (value program state inputs env l) × In (range (signatures_of program) placed.scope r) (value program state inputs env r)
+  sides term op l r placed e =
+      let y = at_layer program state inputs env term placed (ResolvedTerm-F.Binary op l r) _ e (terms.rolls-Binary op l r) in
+      let p = and_parts _ _ y.0 in
+      let f = and_parts _ _ p.0 in
+      let d = and_parts _ _ y.1 in
       let sound = value_in_range program state inputs env placed.scope (reads_in program state inputs reads) placed.values in
-      fits-binary op _ _ _ _ p.1 (sound l q.0) (sound r q.1)
+      (p.1, sound l f.0 d.0, sound r f.1 d.1)
+
+  -- the sum in a term passes no 64 bits
+  pub binary-fits : (term : ResolvedTerm) (op : Op) (l r : ResolvedTerm) → TermPlaced program state inputs term env → term ≡ terms.Binary op l r
+      → FitsSigned w64 (binary op (value program state inputs env l) (value program state inputs env r))
+  binary-fits term op l r placed e = let s = sides term op l r placed e in fits-binary op _ _ _ _ s.0 s.1 s.2
+
+  -- nor 32
+  pub binary-word : (term : ResolvedTerm) (op : Op) (l r : ResolvedTerm) → TermPlaced program state inputs term env → term ≡ terms.Binary op l r
+      → In words (binary op (value program state inputs env l) (value program state inputs env r))
+  binary-word term op l r placed e = let s = sides term op l r placed e in word-binary op _ _ _ _ s.0 s.1 s.2

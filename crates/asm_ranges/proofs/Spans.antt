@@ -1,11 +1,11 @@
 -- Faults of parts in order are in order.
 use Rattle.std.proofs.Common.{ℕ, zero, suc, ◌+◌, ◌<◌, ◌≤◌, Bool, true, false, not, inl, inr, List, [], ◌∷◌, ◌++◌, map, Option, Some, None, refl, arith, append_assoc}
 use Rattle.std.specs.{Prelude.{slice_get}, List.{AllByRecursion}}
-use Rattle.asm_names.specs.{declared.{program.Interval.{Interval}, resolved_term.ResolvedTerm.{ResolvedTerm, out-ResolvedTerm, roll-out-ResolvedTerm, ResolvedTerm-F, map-ResolvedTerm}}, Places.{parted, in_parentheses}, ResolvedPlaces.{resolved_term_tokens}}
+use Rattle.asm_names.specs.{declared.{program.Interval.{Interval}, resolved_term.ResolvedTerm.{ResolvedTerm, out-ResolvedTerm, roll-out-ResolvedTerm, ResolvedTerm-F, map-ResolvedTerm}}, Places.{parted, in_parentheses}, ResolvedPlaces.{resolved_term_tokens, resolved_term_tokens_by}}
 use Rattle.asm_names.proofs.{Known.{all-append}, ResolvedLevels.{term_tokens_of}}
-use Rattle.state_space.specs.{declared.shape.{Range.{Range}, Shape.{Shape}}, Codomains.{whole}}
-use Rattle.asm_ranges.specs.{declared.fault.RangeEnd.{RangeEnd}, Faults.{fault, token_of, Before, Ascending, Spans}, Ranges.{range, inside, sum_fits, binary_range, truths}}
-use Rattle.asm_ranges.specs.{RangeFaults.{Row, FaultyTerm, known, args_faults, domains_of, outside_faults, term_faults, term_faults_by, faulty_term}, Finding.{layer_tokens}}
+use Rattle.state_space.specs.{declared.signature.{Range.{Range}, Signature.{Signature}}, Codomains.{whole}}
+use Rattle.asm_ranges.specs.{declared.fault.RangeEnd.{RangeEnd}, Faults.{fault, token_of, Before, Ascending, Spans}, Ranges.{Scope, range, inside, sum_fits, binary_range, truths}}
+use Rattle.asm_ranges.specs.{RangeFaults.{FaultyTerm, args_faults, domains_of, outside_faults, term_faults, term_faults_by, faulty_term}, Facts.{Facts, Held, Failed}}
 use Rattle.asm_ranges.proofs.Levels.{faults_at}
 use Rattle.asm_ranges.specs.declared.fault.RangeEnd.TheVariants as ends
 
@@ -51,45 +51,52 @@ outside-one = own false
 
 -- ---- terms
 
-module _ (shapes : List Shape) (row : Row) (n : ℕ) (below : (t : ResolvedTerm) → resolved_term_tokens t < n → (need : Option Interval) (at : ℕ) → Spans at (at + resolved_term_tokens t) (term_faults shapes row t need at)) where
-  each : (ds : List Range) (ts : List ResolvedTerm) (at : ℕ) → parted (map resolved_term_tokens ts) < suc n → Spans at (at + parted (map resolved_term_tokens ts)) (args_faults ds (map (faulty_term shapes row) ts) at)
-  each ds [] at small = none at (at + 0)
-  each [] (t ∷ ts) at small = seq (below t (omega arith) None at) (each [] ts (at + resolved_term_tokens t + 1) (omega arith)) (omega arith)
-  each (d ∷ ds) (t ∷ ts) at small = seq (below t (omega arith) (Some (whole d)) at) (each ds ts (at + resolved_term_tokens t + 1) (omega arith)) (omega arith)
+-- how many tokens a term has, by its parts
+abbrev layer_tokens : ResolvedTerm-F ResolvedTerm → ℕ
+layer_tokens x = resolved_term_tokens_by (map-ResolvedTerm ResolvedTerm ℕ resolved_term_tokens x)
 
-  pub arguments : (ds : List Range) (ts : List ResolvedTerm) (at : ℕ) → in_parentheses (map resolved_term_tokens ts) < suc n
-      → Spans (at + 1) (at + (1 + in_parentheses (map resolved_term_tokens ts))) (args_faults ds (map (faulty_term shapes row) ts) (at + 2))
-  arguments ds [] at small = none (at + 1) (at + (1 + 0))
-  arguments ds (t ∷ ts) at small = wider (each ds (t ∷ ts) (at + 2) (omega arith)) (omega arith)
+module _ (signatures : List Signature) (scope : Scope) (n : ℕ)
+    (below : (t : ResolvedTerm) → resolved_term_tokens t < n → (facts : Facts) (need : Option Interval) (at : ℕ) → Spans at (at + resolved_term_tokens t) (term_faults signatures scope t facts need at)) where
+  each : (ds : List Range) (ts : List ResolvedTerm) (facts : Facts) (at : ℕ) → parted (map resolved_term_tokens ts) < suc n
+      → Spans at (at + parted (map resolved_term_tokens ts)) (args_faults ds (map (faulty_term signatures scope) ts) facts at)
+  each ds [] facts at small = none at (at + 0)
+  each [] (t ∷ ts) facts at small = seq (below t (omega arith) facts None at) (each [] ts facts (at + resolved_term_tokens t + 1) (omega arith)) (omega arith)
+  each (d ∷ ds) (t ∷ ts) facts at small = seq (below t (omega arith) facts (Some (whole d)) at) (each ds ts facts (at + resolved_term_tokens t + 1) (omega arith)) (omega arith)
 
-  pair : (a b : ResolvedTerm) (at : ℕ) → layer_tokens (ResolvedTerm-F.Min a b) < suc n
-      → Spans (at + 1) (at + layer_tokens (ResolvedTerm-F.Min a b)) (term_faults shapes row a None (at + 2) ++ term_faults shapes row b None (at + 2 + resolved_term_tokens a + 1))
-  pair a b at small = seq (below a (omega arith) None (at + 2)) (below b (omega arith) None (at + 2 + resolved_term_tokens a + 1)) (omega arith)
+  pub arguments : (ds : List Range) (ts : List ResolvedTerm) (facts : Facts) (at : ℕ) → in_parentheses (map resolved_term_tokens ts) < suc n
+      → Spans (at + 1) (at + (1 + in_parentheses (map resolved_term_tokens ts))) (args_faults ds (map (faulty_term signatures scope) ts) facts (at + 2))
+  arguments ds [] facts at small = none (at + 1) (at + (1 + 0))
+  arguments ds (t ∷ ts) facts at small = wider (each ds (t ∷ ts) facts (at + 2) (omega arith)) (omega arith)
 
-  level : (x : ResolvedTerm-F ResolvedTerm) → layer_tokens x < suc n → (need : Option Interval) (at : ℕ)
-      → Spans at (at + layer_tokens x) (term_faults_by shapes row (map-ResolvedTerm ResolvedTerm FaultyTerm (faulty_term shapes row) x) need at)
-  level (ResolvedTerm-F.Read fun ts) small need at = seq (outside-one _ need at) (arguments (domains_of (slice_get shapes fun)) ts at (omega arith)) (omega arith)
-  level (ResolvedTerm-F.Binary o l r) small need at =
+  pair : (a b : ResolvedTerm) (facts : Facts) (at : ℕ) → layer_tokens (ResolvedTerm-F.Min a b) < suc n
+      → Spans (at + 1) (at + layer_tokens (ResolvedTerm-F.Min a b)) (term_faults signatures scope a facts None (at + 2) ++ term_faults signatures scope b facts None (at + 2 + resolved_term_tokens a + 1))
+  pair a b facts at small = seq (below a (omega arith) facts None (at + 2)) (below b (omega arith) facts None (at + 2 + resolved_term_tokens a + 1)) (omega arith)
+
+  level : (x : ResolvedTerm-F ResolvedTerm) → layer_tokens x < suc n → (facts : Facts) (need : Option Interval) (at : ℕ)
+      → Spans at (at + layer_tokens x) (term_faults_by signatures scope (map-ResolvedTerm ResolvedTerm FaultyTerm (faulty_term signatures scope) x) facts need at)
+  level (ResolvedTerm-F.Read fun ts) small facts need at = seq (outside-one _ need at) (arguments (domains_of (slice_get signatures fun)) ts facts at (omega arith)) (omega arith)
+  level (ResolvedTerm-F.Binary o l r) small facts need at =
       rw (← append_assoc)
-      (seq {c = at + 1} {d = at + layer_tokens (ResolvedTerm-F.Binary o l r)} (own (not (sum_fits o (binary_range o (range shapes (known row) l) (range shapes (known row) r)))) _ need at)
-      (seq (below l (omega arith) None (at + 1)) (below r (omega arith) None (at + 1 + resolved_term_tokens l + 1)) (omega arith)) (omega arith))
-  level (ResolvedTerm-F.Not t) small need at = seq (outside-one truths need at) (below t (omega arith) None (at + 1)) (omega arith)
-  level (ResolvedTerm-F.Min a b) small need at = seq (outside-one _ need at) (pair a b at small) (omega arith)
-  level (ResolvedTerm-F.Max a b) small need at = seq (outside-one _ need at) (pair a b at small) (omega arith)
-  level (ResolvedTerm-F.Cond g a b) small need at =
+      (seq {c = at + 1} {d = at + layer_tokens (ResolvedTerm-F.Binary o l r)} (own (not (sum_fits o (binary_range o (range signatures scope l) (range signatures scope r)))) _ need at)
+      (seq (below l (omega arith) facts None (at + 1)) (below r (omega arith) facts None (at + 1 + resolved_term_tokens l + 1)) (omega arith)) (omega arith))
+  level (ResolvedTerm-F.Not t) small facts need at = seq (outside-one truths need at) (below t (omega arith) facts None (at + 1)) (omega arith)
+  level (ResolvedTerm-F.Min a b) small facts need at = seq (outside-one _ need at) (pair a b facts at small) (omega arith)
+  level (ResolvedTerm-F.Max a b) small facts need at = seq (outside-one _ need at) (pair a b facts at small) (omega arith)
+  level (ResolvedTerm-F.Cond g a b) small facts need at =
       let end = at + layer_tokens (ResolvedTerm-F.Cond g a b) in
       let first_at = at + 2 + resolved_term_tokens g + 1 in
-      seq {c = at + 1} {d = end} (outside-one _ need at) (seq {c = first_at} {d = end} (below g (omega arith) None (at + 2))
-      (seq (below a (omega arith) None first_at) (below b (omega arith) None (first_at + resolved_term_tokens a + 1)) (omega arith)) (omega arith)) (omega arith)
-  level _ small need at = seq (outside-one _ need at) (none (at + 1) (at + 1)) (omega arith)
+      seq {c = at + 1} {d = end} (outside-one _ need at) (seq {c = first_at} {d = end} (below g (omega arith) facts None (at + 2))
+      (seq (below a (omega arith) (Held g ∷ facts) None first_at) (below b (omega arith) (Failed g ∷ facts) None (first_at + resolved_term_tokens a + 1)) (omega arith)) (omega arith)) (omega arith)
+  level _ small facts need at = seq (outside-one _ need at) (none (at + 1) (at + 1)) (omega arith)
 
-at_depth : (shapes : List Shape) (row : Row) (n : ℕ) (t : ResolvedTerm) → resolved_term_tokens t < n → (need : Option Interval) (at : ℕ) → Spans at (at + resolved_term_tokens t) (term_faults shapes row t need at)
-at_depth shapes row zero t small need at = absurd (omega arith)
-at_depth shapes row (suc n) t small need at =
+at_depth : (signatures : List Signature) (scope : Scope) (n : ℕ) (t : ResolvedTerm) → resolved_term_tokens t < n → (facts : Facts) (need : Option Interval) (at : ℕ)
+    → Spans at (at + resolved_term_tokens t) (term_faults signatures scope t facts need at)
+at_depth signatures scope zero t small facts need at = absurd (omega arith)
+at_depth signatures scope (suc n) t small facts need at =
     let x = out-ResolvedTerm t in
     let e = roll-out-ResolvedTerm t in
-    rw (faults_at x t e shapes row need at, term_tokens_of x t e) (level shapes row n (at_depth shapes row n) x (omega (arith, term_tokens_of x t e)) need at)
+    rw (faults_at x t e signatures scope facts need at, term_tokens_of x t e) (level signatures scope n (at_depth signatures scope n) x (omega (arith, term_tokens_of x t e)) facts need at)
 
 -- the faults of a term are in order, at its tokens
-pub term_spans : (shapes : List Shape) (row : Row) (t : ResolvedTerm) (need : Option Interval) (at : ℕ) → Spans at (at + resolved_term_tokens t) (term_faults shapes row t need at)
-term_spans shapes row t = at_depth shapes row (suc (resolved_term_tokens t)) t (omega arith)
+pub term_spans : (signatures : List Signature) (scope : Scope) (t : ResolvedTerm) (facts : Facts) (need : Option Interval) (at : ℕ) → Spans at (at + resolved_term_tokens t) (term_faults signatures scope t facts need at)
+term_spans signatures scope t = at_depth signatures scope (suc (resolved_term_tokens t)) t (omega arith)

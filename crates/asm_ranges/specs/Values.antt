@@ -1,8 +1,8 @@
 -- What a term stands for in a state.
-use Rattle.std.specs.{Prelude.{ℕ, ℤ, pos, ◌+ℤ◌, ◌-ℤ◌, Bool, true, false, not, ◌&&◌, ◌||◌, List, [], map, int_lt, int_le, slice_index_or, if◌then◌else◌, Option, Some, None}, Int.{int_min, int_max}, Ordering.{int_eq}}
+use Rattle.std.specs.{Prelude.{ℕ, ℤ, pos, ◌+ℤ◌, ◌-ℤ◌, Bool, true, false, not, ◌&&◌, ◌||◌, List, [], ◌∷◌, map, int_lt, int_le, slice_index_or, slice_get, if◌then◌else◌, Option, Some, None}, List.{list_all}, Int.{int_min, int_max}, Ordering.{int_eq}}
 use Rattle.asm_tree.specs.declared.{decl.Kind.{Kind}, term.Op.{Op}}
-use Rattle.asm_names.specs.declared.{program.{Fun.{Fun}, Resolved.{Resolved}}, resolved_term.ResolvedTerm.{ResolvedTerm, ResolvedTerm-F, fold-ResolvedTerm}}
-use Rattle.state_space.specs.Locations.{place_among, tuple_number, state_locations, input_locations, range_of, shapes_of}
+use Rattle.asm_names.specs.declared.{program.{Fun.{Fun}, Resolved.{Resolved}}, resolved_term.ResolvedTerm.{ResolvedTerm, ResolvedTerm-F, fold-ResolvedTerm, para-ResolvedTerm}}
+use Rattle.state_space.specs.{declared.signature.{Range.{Range}, Signature.{Signature}}, Locations.{place_among, tuple_number, state_locations, input_locations, range_of, signatures_of}, Codomains.{whole}}
 use Rattle.asm_tree.specs.declared.decl.Kind.TheVariants as kinds
 use Rattle.asm_tree.specs.declared.term.Op.TheVariants as ops
 
@@ -30,9 +30,9 @@ fun_of program n = slice_index_or program.funs n no_fun
 
 -- the number of a function's value at these arguments, in the list where the values of its kind stand
 abbrev pub number_read : Resolved → Kind → ℕ → List ℤ → Option ℕ
-number_read program kinds.Controlled fun args = place_among (state_locations (shapes_of program)) (record { fun = fun; args = args })
-number_read program kinds.Output fun args = place_among (state_locations (shapes_of program)) (record { fun = fun; args = args })
-number_read program kinds.Input fun args = place_among (input_locations (shapes_of program)) (record { fun = fun; args = args })
+number_read program kinds.Controlled fun args = place_among (state_locations (signatures_of program)) (record { fun = fun; args = args })
+number_read program kinds.Output fun args = place_among (state_locations (signatures_of program)) (record { fun = fun; args = args })
+number_read program kinds.Input fun args = place_among (input_locations (signatures_of program)) (record { fun = fun; args = args })
 number_read program kinds.Static fun args = tuple_number (map (range_of program.domains) (fun_of program fun).args) args
 
 -- that list
@@ -80,3 +80,43 @@ value_by program state inputs env (ResolvedTerm-F.Cond guard first second) = if 
 
 unfoldable pub value : Resolved → State → Inputs → Env → ResolvedTerm → ℤ
 value program state inputs env = fold-ResolvedTerm ℤ (value_by program state inputs env)
+
+-- ---- terms that meet no function outside its domains
+
+-- whether a number lies in a domain
+abbrev pub lies_in : Range → ℤ → Bool
+lies_in domain value = int_le (whole domain).lo value && int_le value (whole domain).hi
+
+-- whether there are as many values as domains, and each lies in its domain
+abbrev pub lie_in : List Range → List ℤ → Bool
+lie_in [] [] = true
+lie_in [] (value ∷ values) = false
+lie_in (domain ∷ domains) [] = false
+lie_in (domain ∷ domains) (value ∷ values) = lies_in domain value && lie_in domains values
+
+-- whether a function is there and takes these arguments
+abbrev pub takes_args : Option Signature → List ℤ → Bool
+takes_args None args = false
+takes_args (Some signature) args = lie_in signature.args args
+
+-- a term, and whether it is defined
+abbrev pub Definite : Type 0
+Definite = ResolvedTerm × Bool
+
+-- one term, with each part and whether it is defined
+abbrev pub defined_by : Resolved → State → Inputs → Env → ResolvedTerm-F Definite → Bool
+defined_by program state inputs env (ResolvedTerm-F.Number value) = true
+defined_by program state inputs env (ResolvedTerm-F.Var binder) = true
+defined_by program state inputs env (ResolvedTerm-F.Read fun args) =
+    list_all (λ arg. arg.1) args && takes_args (slice_get (signatures_of program) fun) (map (λ arg. value program state inputs env arg.0) args)
+defined_by program state inputs env (ResolvedTerm-F.Binary op left right) = left.1 && right.1
+defined_by program state inputs env (ResolvedTerm-F.Not inner) = inner.1
+defined_by program state inputs env (ResolvedTerm-F.Min first second) = first.1 && second.1
+defined_by program state inputs env (ResolvedTerm-F.Max first second) = first.1 && second.1
+defined_by program state inputs env (ResolvedTerm-F.Cond guard first second) =
+    guard.1 && (if holds (value program state inputs env guard.0) then first.1 else second.1)
+
+-- whether no function is met outside its domains: of a `cond` the guard and the decided branch are met, of every other term
+-- all parts
+unfoldable pub defined : Resolved → State → Inputs → Env → ResolvedTerm → Bool
+defined program state inputs env = para-ResolvedTerm Bool (defined_by program state inputs env)

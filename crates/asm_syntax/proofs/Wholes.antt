@@ -1,5 +1,5 @@
 -- Reading a whole program: what is found stands there, and what stands there is found.
-use Rattle.std.proofs.Common.{◌≡◌, ◌≢◌, ℕ, Bool, true, false, cond, List, [], ◌∷◌, ◌++◌, length, Option, Some, None, Ok, Err, refl, sym, ap, subst, ◌∙◌, append_assoc}
+use Rattle.std.proofs.Common.{◌≡◌, ℕ, Bool, true, false, cond, List, [], ◌∷◌, ◌++◌, length, Option, Some, None, Ok, Err, refl, sym, ap, subst, ◌∙◌, append_assoc}
 use Rattle.std.proofs.lemmas.List.{append-nil}
 use Rattle.asm_tree.specs.declared.key.Key.{Key}
 use Rattle.asm_tree.specs.declared.key.Key.TheVariants as keys
@@ -128,11 +128,9 @@ program_again i p is e =
 pub ok_answers : (i j : Input) (found p : Parts) → program i ≡ Ok (found, j) → IsProgram p → i ≡ program_text p → found ≡ p
 ok_answers i j found p h is e = (ok_is (sym h ∙ program_again i p is e)).0
 
-pub err_answers : (i : Input) (total : ℕ) (stop : Stop) (end : ParseEnd) (p : Parts) → (stop ≢ stops.NoMemory → program i ≡ Err stop) → end ≡ end_at total stop
+pub err_answers : (i : Input) (total : ℕ) (stop : Stop) (end : ParseEnd) (p : Parts) → program i ≡ Err stop → end ≡ end_at total stop
     → IsProgram p → i ≡ program_text p → Answers {A = Parts} (Err end) p
-err_answers i total stops.NoMemory end p h ends-is is e = rw ends-is tt
-err_answers i total (stops.Unexpected left) end p h ends-is is e = absurd (let q = sym (h (λ same. cc)) ∙ program_again i p is e in cc)
-err_answers i total (stops.TooDeep left) end p h ends-is is e = absurd (let q = sym (h (λ same. cc)) ∙ program_again i p is e in cc)
+err_answers i total stop end p h ends-is is e = absurd (let q = sym h ∙ program_again i p is e in cc)
 
 -- the steps of reading a program, one after the other
 pub program_reads : (i i1 i2 i3 i4 i5 i6 j : Input) (u v z : Unit {0}) (w : List ℕ) (ds : List Decl) (o : Option Term) (r : Rule)
@@ -141,7 +139,6 @@ pub program_reads : (i i1 i2 i3 i4 i5 i6 j : Input) (u v z : Unit {0}) (w : List
 unfolding program and_then
 program_reads i i1 i2 i3 i4 i5 i6 j u v z w ds o r a b c d e f g = rw (a, b, c, d, e, f, g) refl
 
-pub err_refused : (i : Input) (total : ℕ) (stop : Stop) (end : ParseEnd) → total ≡ length i → (stop ≢ stops.NoMemory → program i ≡ Err stop) → end ≡ end_at total stop → RefusedAt i end
-err_refused i total stops.NoMemory end n h e = rw e tt
-err_refused i total (stops.Unexpected left) end n h e = rw (e, n) (stops.Unexpected left, h (λ same. cc), refl)
-err_refused i total (stops.TooDeep left) end n h e = rw (e, n) (stops.TooDeep left, h (λ same. cc), refl)
+pub err_refused : (i : Input) (total : ℕ) (stop : Stop) (end : ParseEnd) → total ≡ length i → program i ≡ Err stop → end ≡ end_at total stop → RefusedAt i end
+err_refused i total (stops.Unexpected left) end n h e = rw (e, n) (stops.Unexpected left, h, refl)
+err_refused i total (stops.TooDeep left) end n h e = rw (e, n) (stops.TooDeep left, h, refl)

@@ -16,7 +16,6 @@ Answers (Err (ends.TooDeep token)) x = ⊥
 
 -- the end of reading at a stop: of so many tokens in all, the one at which so many are left is counted from 1
 abbrev pub end_at : ℕ → Stop → ParseEnd
-end_at total stops.NoMemory = ends.NoMemory
 end_at total (stops.Unexpected left) = ends.Unexpected ((total - left) + 1)
 end_at total (stops.TooDeep left) = ends.TooDeep ((total - left) + 1)
 

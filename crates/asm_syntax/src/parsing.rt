@@ -11,7 +11,7 @@ ghost use Rattle.asm_syntax.specs.Grammar.{program_text};
 use crate::decl::declarations;
 use asm_rules::rule::rule;
 use asm_rules::term::term;
-use asm_rules::{Cursor, Stop};
+use asm_rules::{Cursor, ReadEnd, Stop};
 use asm_tokens::Token;
 use asm_tree::{Key, MAX_DEPTH, Program, Term};
 use sqlite_items::Boxed;
@@ -49,7 +49,6 @@ fn end_of(total: usize, stop: Stop) -> ParseEnd
     ensures { result ≡ end_at total stop }
 {
     match stop {
-        Stop::NoMemory => ParseEnd::NoMemory,
         Stop::Unexpected(left) => ParseEnd::Unexpected {
             token: number_of(total, left),
         },
@@ -61,7 +60,7 @@ fn end_of(total: usize, stop: Stop) -> ParseEnd
 
 /// The legal term, if `legal` comes next.
 #[tactic(auto, unfolding(asm_rules::specs::Reading::and_then, crate::specs::Reading::legal))]
-fn legal(alloc: Global, cursor: &mut Cursor<'_>) -> Result<Option<Boxed<Term>>, Stop>
+fn legal(alloc: Global, cursor: &mut Cursor<'_>) -> Result<Option<Boxed<Term>>, ReadEnd>
     ensures { Reads (spec.legal cursor.old) result cursor.new }
 {
     if !cursor.eat_key(Key::Legal) {
@@ -72,7 +71,7 @@ fn legal(alloc: Global, cursor: &mut Cursor<'_>) -> Result<Option<Boxed<Term>>, 
 
 /// A program and nothing after it.
 #[tactic(auto, unfolding(asm_rules::specs::Reading::and_then, crate::specs::Reading::program))]
-fn program(alloc: Global, cursor: &mut Cursor<'_>) -> Result<Program, Stop>
+fn program(alloc: Global, cursor: &mut Cursor<'_>) -> Result<Program, ReadEnd>
     ensures { Reads (spec.program cursor.old) result cursor.new }
 {
     cursor.key(Key::Machine)?;
@@ -84,7 +83,7 @@ fn program(alloc: Global, cursor: &mut Cursor<'_>) -> Result<Program, Stop>
     cursor.end()?;
     match Program::new(name, decls, legal, rule) {
         Some(program) => Ok(program),
-        None => Err(cursor.refuse()),
+        None => Err(cursor.refuse().into()),
     }
 }
 
@@ -127,6 +126,7 @@ pub fn parse(alloc: Global, list: &[Token]) -> Result<Program, ParseEnd>
     let mut cursor = Cursor::new(list);
     match program(alloc, &mut cursor) {
         Ok(found) => Ok(found),
-        Err(stop) => Err(end_of(list.len(), stop)),
+        Err(ReadEnd::Stopped(stop)) => Err(end_of(list.len(), stop)),
+        Err(ReadEnd::NoMemory) => Err(ParseEnd::NoMemory),
     }
 }

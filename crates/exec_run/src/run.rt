@@ -1,6 +1,7 @@
 //! A hart that runs for a number of ticks, and the text of the run.
 
-ghost use Rattle.std.specs.Prelude.{◌≡◌, ◌++◌, length, IfOk, OnOk};
+ghost use Rattle.std.specs.Prelude.{◌≡◌, ◌++◌, length, IfOk, OnOk, OnErr};
+ghost use Rattle.std.specs.Io.{StartsWith};
 ghost use Rattle.rv_machine.specs.Run.{after, events, ports_taken};
 ghost use Rattle.exec_run.specs.ExecText.{exec_text, send_lines, traps};
 ghost use Rattle.text_core.specs.WrittenLines.{lines_text};
@@ -32,6 +33,7 @@ fn run<const ROM: u32, const RAM: u32>(
     ensures traps { IfOk result (λ counts. counts.traps ≡ traps (events rom.now ticks feed.old.left hart.old)) }
     ensures readings { IfOk result (λ counts. counts.readings ≡ length (ports_taken (events rom.now ticks feed.old.left hart.old))) }
     ensures hart { OnOk result (hart.new ≡ after rom.now ticks feed.old.left hart.old) }
+    ensures err { OnErr result (StartsWith out.new.items out.old.items) }
 {
     let mut traps = 0;
     let mut readings = 0;

@@ -33,54 +33,7 @@ fn text(
 
 /// The image, the first program counter, the readings, the ticks and the text. Registers and RAM are 0
 /// at the start.
-const RUNS: [(&[u32], u32, &[u32], u32, &[u8]); 11] = [
-    (
-        // a reading is sent on: lui x1, 0x20000; lw x2, 0(x1); lui x3, 0x20001; sw x2, 4(x3)
-        &[0x2000_00b7, 0x0000_a103, 0x2000_11b7, 0x0021_a223],
-        0,
-        &[0xff],
-        4,
-        b"send 4 1 000000ff
-ticks 4 traps 0 readings 1
-pc 00000010
-x1 20000000
-x2 000000ff
-x3 20001000
-",
-    ),
-    (
-        // a branch to no multiple of 4 traps: addi x1, x0, -2; srai x2, x1, 31; sltiu x3, x1, -1; beq x0, x0, 2
-        &[0xffe0_0093, 0x41f0_d113, 0xfff0_b193, 0x0000_0163],
-        0,
-        &[],
-        4,
-        b"ticks 4 traps 1 readings 0
-pc 00000000
-x1 fffffffe
-x2 ffffffff
-x3 00000001
-",
-    ),
-    (
-        // the last word of ROM jumps to 0: nop
-        &[0x0000_0013],
-        0x3fffc,
-        &[],
-        1,
-        b"ticks 1 traps 0 readings 0
-pc 00000000
-",
-    ),
-    (
-        // each tick traps: sw x0, 0(x0)
-        &[0x0000_2023],
-        0,
-        &[],
-        3,
-        b"ticks 3 traps 3 readings 0
-pc 00000000
-",
-    ),
+const RUNS: [(&[u32], u32, &[u32], u32, &[u8]); 7] = [
     (
         // no tick: nop
         &[0x0000_0013],

@@ -4,8 +4,6 @@
 
 mod law;
 mod reading;
-#[cfg(test)]
-mod tests;
 mod writing;
 
 pub use law::report_determines_image;

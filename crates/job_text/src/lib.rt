@@ -4,7 +4,7 @@
 //! A job is text of lines. A line whose first byte is `%` is a header; a section is the lines behind its header up to
 //! the next one. In `%rom` and `%run`, and before the first header, lines of blanks alone and lines whose first byte
 //! is `#` are passed over. `exec` takes `%rom` and may have `%run` behind it; `model` takes `%source` and may have
-//! `%run` behind it; `list` takes `%rom` alone; `check` and `asm` take `%source` alone. A header is exactly the word,
+//! `%run` behind it; all others take `%rom` alone or `%source` alone. A header is exactly the word,
 //! without blanks. Lines before the first header must all be passed over. With any other header, order or repetition,
 //! or a missing section, the job has another form.
 //!

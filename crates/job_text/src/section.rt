@@ -1,10 +1,10 @@
 //! The sections of a job's text.
 
-ghost use Rattle.std.specs.Prelude.{◌≡◌, ℕ, ◌+◌, ◌^◌, ◌<◌, ◌≤◌, ◌∷◌, [], length, take, drop, codes, IfNone, IfSome, true, Some, None, if◌then◌else◌};
+ghost use Rattle.std.specs.Prelude.{◌≡◌, ℕ, ◌+◌, ◌^◌, ◌<◌, ◌≤◌, length, take, drop, codes, IfSome, true, Some, None, if◌then◌else◌};
 ghost use Rattle.std.specs.Option.{option_map};
 ghost use Rattle.text_core.specs.Lines.{lines};
 ghost use Rattle.job_text.specs.Parts.{IsInside, section_of};
-ghost use Rattle.job_text.specs.Places.{behind_header, behind_line, header_place, section_text};
+ghost use Rattle.job_text.specs.Places.{behind_header, header_place, section_text};
 ghost use Rattle.job_text.specs.Sections.{all_passed, begins, body, exec_sections, from_header, is_empty, is_passed, model_sections, only_section, opened, run_lines, section_and_run};
 
 use text_core::{begins, is_passed, next_line};
@@ -73,32 +73,6 @@ fn passed(text: &[u8]) -> Option<u32>
     Some(count)
 }
 
-/// What stands behind the first line.
-fn behind_line(text: &[u8]) -> &[u8]
-    ensures value { result.now ≡ behind_line text.now }
-    ensures shorter { length result.now ≤ length text.now }
-{
-    for (index, byte) in text.iter().enumerate() {
-        if *byte == b'\n' {
-            return &text[index + 1..];
-        }
-    }
-    &[]
-}
-
-/// The first line, and what stands behind it. None where the text is at its end.
-fn first_line(text: &[u8]) -> Option<(&[u8], &[u8])>
-    ensures none { IfNone result (text.now ≡ []) }
-    ensures line { IfSome result (λ found. lines text.now ≡ found.0.now ∷ lines found.1.now) }
-    ensures behind { IfSome result (λ found. found.1.now ≡ behind_line text.now) }
-    ensures shorter { IfSome result (λ found. length found.1.now ≤ length text.now) }
-{
-    match next_line(text) {
-        None => None,
-        Some((line, _)) => Some((line, behind_line(text))),
-    }
-}
-
 /// What stands behind the first header, where that is this one and the lines before it are passed over.
 #[tactic(auto, unfolding(crate::specs::Sections::opened))]
 fn opened<'a>(bytes: &'a [u8], header: &[u8]) -> Option<Part<'a>>
@@ -112,7 +86,7 @@ fn opened<'a>(bytes: &'a [u8], header: &[u8]) -> Option<Part<'a>>
         Some(count) => count,
         None => return None,
     };
-    match first_line(&bytes[start..]) {
+    match next_line(&bytes[start..]) {
         Some((line, text)) if line == header => Some(Part {
             text,
             first_line: before + 2,

@@ -11,9 +11,9 @@ use Rattle.asm_tree.specs.declared.decl.Kind.TheVariants as kinds
 use Rattle.asm_names.specs.declared.program.Domain.{Domain}
 use Rattle.asm_names.specs.declared.program.Fun.{Fun}
 use Rattle.asm_names.specs.declared.program.Resolved.{Resolved}
-use Rattle.state_space.specs.declared.shape.Range.{Range}
-use Rattle.state_space.specs.declared.shape.Shape.{Shape}
-use Rattle.state_space.specs.Locations.{is_state, is_input, shape_of, shapes_of}
+use Rattle.state_space.specs.declared.signature.Range.{Range}
+use Rattle.state_space.specs.declared.signature.Signature.{Signature}
+use Rattle.state_space.specs.Locations.{is_state, is_input, signature_of, signatures_of}
 use Rattle.state_space.specs.Sizes.{IsRange, fits, padded_count, padded_own, padded_sum}
 use Rattle.state_space.proofs.Padding.{padded_count-within, sum_mapped}
 use Rattle.model_run.specs.NeedParts.{bytes_of, own_need}
@@ -25,32 +25,32 @@ own_parts kinds.Output n = omega arith
 own_parts kinds.Input n = omega arith
 own_parts kinds.Static n = omega arith
 
-sum_parts : (shapes : List Shape) → sum_by own_need shapes ≡ 12 * padded_sum is_state shapes + 4 * padded_sum is_input shapes
+sum_parts : (signatures : List Signature) → sum_by own_need signatures ≡ 12 * padded_sum is_state signatures + 4 * padded_sum is_input signatures
 sum_parts [] = refl
-sum_parts (s ∷ shapes) =
+sum_parts (s ∷ signatures) =
     omega
-    (arith, sum_by-cons own_need s shapes, sum_by-cons (padded_own is_state) s shapes, sum_by-cons (padded_own is_input) s shapes, own_parts s.kind (padded_count s.args), sum_parts shapes)
+    (arith, sum_by-cons own_need s signatures, sum_by-cons (padded_own is_state) s signatures, sum_by-cons (padded_own is_input) s signatures, own_parts s.kind (padded_count s.args), sum_parts signatures)
 
 -- what the first functions need
 abbrev pub first_needs : List Domain → List Fun → ℕ → ℕ
-first_needs domains functions n = sum_by (λ function. own_need (shape_of domains function)) (take n functions)
+first_needs domains functions n = sum_by (λ function. own_need (signature_of domains function)) (take n functions)
 
 pub needs-all : (program : Resolved) (domains : List Domain) (functions : List Fun) (n need : ℕ) → domains ≡ program.domains → functions ≡ program.funs → length functions ≤ n
     → need ≡ min (4 * (program.binders + 4) + first_needs domains functions n) (2 ^ 62) → need ≡ min (needed program) (2 ^ 62)
 needs-all program domains functions n need same_domains same_functions past so_far =
-    let all : first_needs domains functions n ≡ sum_by own_need (shapes_of program) =
-    ap (sum_by (λ function. own_need (shape_of domains function))) (take_all n functions past)
-    ∙ ap (sum_by (λ function. own_need (shape_of domains function))) same_functions
-    ∙ ap (λ ds. sum_by (λ function. own_need (shape_of ds function)) program.funs) same_domains
-    ∙ sym (sum_mapped (shape_of program.domains) own_need program.funs) in
-    omega (arith, so_far, all, sum_parts (shapes_of program))
+    let all : first_needs domains functions n ≡ sum_by own_need (signatures_of program) =
+    ap (sum_by (λ function. own_need (signature_of domains function))) (take_all n functions past)
+    ∙ ap (sum_by (λ function. own_need (signature_of domains function))) same_functions
+    ∙ ap (λ ds. sum_by (λ function. own_need (signature_of ds function)) program.funs) same_domains
+    ∙ sym (sum_mapped (signature_of program.domains) own_need program.funs) in
+    omega (arith, so_far, all, sum_parts (signatures_of program))
 
 -- a program that needs little has few locations
-pub fits-little : (program : Resolved) (need : ℕ) → need ≡ min (needed program) (2 ^ 62) → need ≤ 262144 → fits (shapes_of program) ≡ true
+pub fits-little : (program : Resolved) (need : ℕ) → need ≡ min (needed program) (2 ^ 62) → need ≤ 262144 → fits (signatures_of program) ≡ true
 fits-little program need is little =
-    let states : padded_sum is_state (shapes_of program) ≤ 524288 = omega arith in
-    let inputs : padded_sum is_input (shapes_of program) ≤ 524288 = omega arith in
-    ap (λ b. b && nat_le (padded_sum is_input (shapes_of program)) 524288) (le-leb _ _ states) ∙ le-leb _ _ inputs
+    let states : padded_sum is_state (signatures_of program) ≤ 524288 = omega arith in
+    let inputs : padded_sum is_input (signatures_of program) ≤ 524288 = omega arith in
+    ap (λ b. b && nat_le (padded_sum is_input (signatures_of program)) 524288) (le-leb _ _ states) ∙ le-leb _ _ inputs
 
 bytes-few : (kind : Kind) → bytes_of kind ≤ 12
 bytes-few kinds.Controlled = omega arith

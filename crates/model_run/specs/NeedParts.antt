@@ -2,7 +2,7 @@
 use Rattle.std.specs.Prelude.{ℕ, ◌*◌}
 use Rattle.asm_tree.specs.declared.decl.Kind.{Kind}
 use Rattle.asm_tree.specs.declared.decl.Kind.TheVariants as kinds
-use Rattle.state_space.specs.declared.shape.Shape.{Shape}
+use Rattle.state_space.specs.declared.signature.Signature.{Signature}
 use Rattle.state_space.specs.Sizes.{padded_count}
 
 abbrev pub bytes_of : Kind → ℕ
@@ -12,5 +12,5 @@ bytes_of kinds.Input = 4
 bytes_of kinds.Static = 0
 
 -- how much the locations of a function need
-abbrev pub own_need : Shape → ℕ
-own_need shape = bytes_of shape.kind * padded_count shape.args
+abbrev pub own_need : Signature → ℕ
+own_need signature = bytes_of signature.kind * padded_count signature.args

@@ -2,7 +2,7 @@
 
 ghost use Rattle.std.specs.Prelude.{◌≡◌, ◌≤◌, ◌*◌, ◌^◌, true, length, map};
 ghost use Rattle.std.specs.List.{AllByRecursion};
-ghost use Rattle.state_space.specs.Locations.{range_of as range_spec, shape_of, shapes_of};
+ghost use Rattle.state_space.specs.Locations.{range_of as range_spec, signature_of, signatures_of};
 ghost use Rattle.state_space.specs.Sizes.{IsRange, IsSized, fits, padded_count as padded_spec};
 ghost use Rattle.model_run.specs.NeedParts as parts;
 ghost use Rattle.model_run.specs.Needs as spec;
@@ -27,8 +27,8 @@ fn bytes_of(kind: Kind) -> u64
 
 /// The bytes for the locations of a function.
 fn own_need(domains: &[Domain], function: &Fun) -> u64
-    requires { IsSized (shape_of domains.now function.now) }
-    ensures need { result ≡ parts.own_need (shape_of domains.now function.now) }
+    requires { IsSized (signature_of domains.now function.now) }
+    ensures need { result ≡ parts.own_need (signature_of domains.now function.now) }
     ensures few { result ≤ 12 * 2 ^ 48 }
 {
     bytes_of(function.kind) * padded_numbers(domains, function.args.as_slice())
@@ -39,7 +39,7 @@ fn own_need(domains: &[Domain], function: &Fun) -> u64
 /// binder, and four more. At most 2^62, which stands for all that is greater.
 pub fn word_ram(program: &Resolved) -> u64
     ensures need { result ≡ spec.word_ram_need program.now }
-    ensures fits { result ≤ 262144 → fits (shapes_of program.now) ≡ true }
+    ensures fits { result ≤ 262144 → fits (signatures_of program.now) ≡ true }
 {
     resolved_functions_are_sized(program);
     let domains = program.domains.as_slice();

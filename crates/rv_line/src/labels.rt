@@ -1,6 +1,6 @@
 //! The labels of a text.
 
-ghost use Rattle.std.specs.Prelude.{◌≡◌, ◌++◌, ◌∷◌, [], ℕ, List, Some, None, OnOk, bytes_eq};
+ghost use Rattle.std.specs.Prelude.{◌≡◌, ◌++◌, ◌∷◌, [], ℕ, List, Some, None, OnOk, OnErr, bytes_eq};
 ghost use Rattle.std.specs.Map.{lookup};
 ghost use Rattle.rv_line.specs.Words.{displacement};
 
@@ -44,10 +44,11 @@ impl Labels {
     ///
     /// # Errors
     ///
-    /// `AllocError` where there is no memory for the label.
+    /// `AllocError` where there is no memory for the label; the labels are then as before.
     pub fn add(&mut self, alloc: Global, label: &[u8], word: u32) -> Result<(), AllocError>
         requires { lookup (bytes_eq label.now) self.old ≡ None }
-        ensures { OnOk result (self.new ≡ self.old ++ (label.now, word) ∷ []) }
+        ensures ok { OnOk result (self.new ≡ self.old ++ (label.now, word) ∷ []) }
+        ensures err { OnErr result (self.new ≡ self.old) }
     {
         let key = Vec::from_slice(alloc, label)?;
         self.words.insert(key, word)?;

@@ -1,6 +1,7 @@
 //! Lines of a listing.
 
-ghost use Rattle.std.specs.Prelude.{◌≡◌, ◌++◌, OnOk};
+ghost use Rattle.std.specs.Prelude.{◌≡◌, ◌++◌, OnOk, OnErr};
+ghost use Rattle.std.specs.Io.{StartsWith};
 ghost use Rattle.rv_encode.specs.Decoded.{decoded};
 ghost use Rattle.rv_line.specs.Texts.{instr_text, line_text, said_text};
 
@@ -8,7 +9,7 @@ use crate::operand_text;
 use rv_encode::{decode, instruction_table};
 use rv_isa::Instr;
 use std::alloc::AllocError;
-use text_core::{put_bytes, put_hex8};
+use text_core::{Piece, put_bytes, put_pieces};
 
 /// Appends the mnemonic of an instruction and its operands, by the rows of the table of instructions.
 macro_rules! put_row {
@@ -25,21 +26,20 @@ macro_rules! put_row {
 /// Appends the text of an instruction.
 #[tactic(auto, unfolding(crate::specs::Texts::instr_text))]
 fn put_instr(out: &mut Vec<u8>, instr: Instr) -> Result<(), AllocError>
-    ensures { OnOk result (out.new.items ≡ out.old.items ++ instr_text instr) }
+    ensures ok { OnOk result (out.new.items ≡ out.old.items ++ instr_text instr) }
+    ensures err { OnErr result (StartsWith out.new.items out.old.items) }
 {
     instruction_table!(put_row(out, instr))
 }
 
 /// Appends what a word says: the text of its instruction or, where it is none's, `.word 0x` and eight digits.
 fn put_said(out: &mut Vec<u8>, word: u32) -> Result<(), AllocError>
-    ensures { OnOk result (out.new.items ≡ out.old.items ++ said_text word (decoded word)) }
+    ensures ok { OnOk result (out.new.items ≡ out.old.items ++ said_text word (decoded word)) }
+    ensures err { OnErr result (StartsWith out.new.items out.old.items) }
 {
     match decode(word) {
         Some(instr) => put_instr(out, instr),
-        None => {
-            put_bytes(out, b".word 0x")?;
-            put_hex8(out, word)
-        }
+        None => put_pieces(out, &[Piece::Text(b".word 0x"), Piece::Hex8(word)]),
     }
 }
 
@@ -48,14 +48,18 @@ fn put_said(out: &mut Vec<u8>, word: u32) -> Result<(), AllocError>
 ///
 /// # Errors
 ///
-/// `AllocError` where no memory is left; a front of the line is then appended.
+/// `AllocError` where no memory is left; `out` then begins with what it held.
 #[tactic(auto, unfolding(crate::specs::Texts::line_text))]
 pub fn put_line(out: &mut Vec<u8>, address: u32, word: u32) -> Result<(), AllocError>
-    ensures { OnOk result (out.new.items ≡ out.old.items ++ line_text address word) }
+    ensures ok { OnOk result (out.new.items ≡ out.old.items ++ line_text address word) }
+    ensures err { OnErr result (StartsWith out.new.items out.old.items) }
 {
+    let comment = [
+        Piece::Text(b" # "),
+        Piece::Hex8(address),
+        Piece::Text(b" "),
+        Piece::Hex8(word),
+    ];
     put_said(out, word)?;
-    put_bytes(out, b" # ")?;
-    put_hex8(out, address)?;
-    put_bytes(out, b" ")?;
-    put_hex8(out, word)
+    put_pieces(out, &comment)
 }

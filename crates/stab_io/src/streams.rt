@@ -51,7 +51,8 @@ pub struct StdSink<W> {
 impl<W: Write> StdSink<W> {
     /// A sink with no faults yet. Takes no memory, and writes nothing.
     pub fn new(writer: W) -> StdSink<W>
-        ensures { ⟦<StdSink<W> as Sink>⟧.faults result ≡ 0 }
+        ensures faults { ⟦<StdSink<W> as Sink>⟧.faults result ≡ 0 }
+        ensures writer { result.writer ≡ writer }
     {
         StdSink { writer, faults: 0 }
     }
@@ -72,13 +73,24 @@ impl<W: Write> StdSink<W> {
 }
 
 impl<W: Write> Sink for StdSink<W> {
+    ghost use Rattle.std.specs.Prelude.{◌<◌, None, IfOk, length, take};
+    ghost use Rattle.std.specs.Io.{WritesAtMost};
+    ghost use Rattle.std.specs.Io.KnownBytes.{Appends, WriteAppends};
+    ghost use Rattle.stab_io.specs.Causes.{HasCause};
+
     ghost held = { λ _. None };
 
     ghost faults = { λ sink. sink.faults };
 
-    /// One write to the writer and a flush. An error of either is a fault, and so is a write that
-    /// takes nothing of a piece that isn't empty.
-    fn write(&mut self, piece: &[u8]) -> Result<usize, Failed> {
+    /// One write to the writer and a flush. The writer got the bytes that the call says it took. An
+    /// error of either is a fault, and so is a write that takes nothing of a piece that isn't empty.
+    fn write(&mut self, piece: &[u8]) -> Result<usize, Failed>
+        ensures bound { WritesAtMost result piece.now }
+        ensures progress { 0 < length piece.now → IfOk result (λ count. 0 < count) }
+        ensures bytes { WriteAppends None None result piece.now }
+        ensures cause { HasCause self.old.faults self.new.faults result }
+        ensures written { IfOk result (λ count. Appends (W.contents self.old.writer) (W.contents self.new.writer) (take count piece.now)) }
+    {
         match Self::write_and_flush(&mut self.writer, piece) {
             Some(count) => Ok(count),
             None => {

@@ -1,10 +1,13 @@
 pub mod Exponents
+pub mod Fitting
+pub mod Indices
+pub mod Located
 pub mod Numbers
 pub mod Padding
 pub mod Places
 pub mod Positions
+pub mod Sized
 pub mod Small
 pub mod Values
 pub mod Waiting
 pub mod Widening
-pub mod Sized

@@ -1,9 +1,12 @@
 pub mod Arrays
 pub mod Codomains
 pub mod Decoding
+pub mod DecodingLaw
 pub mod Firing
 pub mod Firsts
 pub mod Kinds
 pub mod Locations
+pub mod PaddedLaw
 pub mod Pending
 pub mod Sizes
+pub mod StateLaw

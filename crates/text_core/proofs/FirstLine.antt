@@ -1,5 +1,6 @@
 -- The first line of a text.
 use Rattle.std.proofs.Common.{◌≡◌, ◌≢◌, ℕ, zero, suc, ◌<◌, ◌==◌, Bool, true, false, cond, List, [], ◌∷◌, length, take, drop, get_or, not, refl, sym, ap, ◌∙◌, arith, inl, inr, sub-one, ◌&&◌}
+use Rattle.std.specs.Io.BufRead.{drop_through}
 use Rattle.std.specs.List.{prefix_len}
 use Rattle.std.proofs.lemmas.Bool.{eq-eqb, ne_eqb, cases_eq}
 use Rattle.std.proofs.Math.Bool.{and-false}
@@ -56,3 +57,8 @@ fed_line (suc (suc n)) (c ∷ d ∷ ds) e short =
     let second = before_feed d ds n first.1 in
     let rest = fed_line (suc n) (d ∷ ds) first.1 (omega arith) in
     begins_line c (d ∷ ds) first.0 (ne_eqb d 10 second.0) ∙ ap (joined c) rest ∙ ap (λ line. line ∷ lines (drop (suc n) ds)) (sym (without_return-more c d (take n ds)))
+
+pub behind_feed : (n : ℕ) (text : List ℕ) → unfed text ≡ n → drop_through 10 text ≡ drop (suc n) text
+behind_feed n [] e = refl
+behind_feed zero (c ∷ cs) e = rw (eq-eqb c 10 (at_feed c cs e)) refl
+behind_feed (suc n) (c ∷ cs) e = let first = before_feed c cs n e in rw (ne_eqb c 10 first.0) (behind_feed n cs first.1)

@@ -1,5 +1,6 @@
 -- The fields of a line.
-use Rattle.std.specs.Prelude.{false, ℕ, ◌-◌, ◌<◌, ◌≤◌, Bool, true, ◌||◌, ◌==◌, List, [], ◌∷◌, length, take, drop, if◌then◌else◌}
+use Rattle.std.specs.Prelude.{false, ℕ, ◌+◌, ◌-◌, ◌<◌, ◌≤◌, Bool, true, not, ◌||◌, ◌==◌, List, [], ◌∷◌, length, take, drop, if◌then◌else◌, ⊤}
+use Rattle.std.specs.List.{prefix_len}
 use Rattle.text_core.specs.Lines.{joined}
 
 -- a space or a tab
@@ -25,6 +26,16 @@ piece line place = take (place.1 - place.0) (drop place.0 line)
 -- a start and an end that enclose some bytes of the line
 abbrev pub IsWithin : List ℕ → ℕ × ℕ → Type 0
 IsWithin line place = (place.0 < place.1) × (place.1 ≤ length line)
+
+-- each place begins where the one before it ends, or behind that; the first begins at this place or behind it
+abbrev pub AreInOrder : ℕ → List (ℕ × ℕ) → Type 0
+AreInOrder end [] = ⊤
+AreInOrder end (place ∷ places) = (end ≤ place.0) × AreInOrder place.1 places
+
+-- where the first field ends: behind the blanks that it follows and the bytes up to the next blank
+abbrev pub first_end : List ℕ → ℕ
+first_end line =
+    let blanks = prefix_len is_blank line in blanks + prefix_len (λ byte. not (is_blank byte)) (drop blanks line)
 
 -- the first byte of a line is this one
 abbrev pub begins : ℕ → List ℕ → Bool

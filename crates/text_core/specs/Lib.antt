@@ -4,3 +4,4 @@ pub mod Lines
 pub mod Numbers
 pub mod Room
 pub mod WrittenLines
+pub mod WrittenPieces

@@ -6,6 +6,12 @@ infixr 30 ◌␣◌
 abbrev pub ◌␣◌ : List ℕ → List ℕ → List ℕ
 x ␣ y = x ++ 32 ∷ y
 
+-- texts with a separator between them
+abbrev pub parted : List ℕ → List (List ℕ) → List ℕ
+parted separator [] = []
+parted separator (text ∷ []) = text
+parted separator (text ∷ next ∷ rest) = text ++ (separator ++ parted separator (next ∷ rest))
+
 -- a line with its line feed
 abbrev pub ended : List ℕ → List ℕ
 ended line = line ++ 10 ∷ []

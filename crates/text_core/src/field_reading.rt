@@ -2,7 +2,7 @@
 
 ghost use Rattle.std.specs.Prelude.{◌≡◌, ℕ, ◌+◌, ◌-◌, ◌<◌, ◌≤◌, List, [], ◌∷◌, length, take, drop, map, All, not, IfNone, IfSome, IfOk};
 ghost use Rattle.std.specs.List.{prefix_len};
-ghost use Rattle.text_core.specs.Fields.{IsWithin, begins, fields, is_blank, is_passed, piece};
+ghost use Rattle.text_core.specs.Fields.{AreInOrder, IsWithin, begins, fields, first_end, is_blank, is_passed, piece};
 
 use std::alloc::{AllocError, Global};
 
@@ -43,6 +43,7 @@ fn field_len(line: &[u8]) -> usize
 fn field_place(line: &[u8]) -> Option<(usize, usize)>
     ensures none { IfNone result (fields line.now ≡ []) }
     ensures field { IfSome result (λ place. fields line.now ≡ piece line.now place ∷ fields (drop place.1 line.now)) }
+    ensures end { IfSome result (λ place. place.1 ≡ first_end line.now) }
     ensures some { IfSome result (λ place. place.0 < place.1) }
     ensures inside { IfSome result (λ place. place.1 ≤ length line.now) }
 {
@@ -57,6 +58,7 @@ fn field_place(line: &[u8]) -> Option<(usize, usize)>
 pub fn next_field(line: &[u8]) -> Option<(&[u8], &[u8])>
     ensures none { IfNone result (fields line.now ≡ []) }
     ensures field { IfSome result (λ found. fields line.now ≡ found.0.now ∷ fields found.1.now) }
+    ensures rest { IfSome result (λ found. found.1.now ≡ drop (first_end line.now) line.now) }
     ensures fewer { IfSome result (λ found. length found.1.now < length line.now) }
     ensures some { IfSome result (λ found. 1 ≤ length found.0.now) }
 {
@@ -68,6 +70,7 @@ pub fn next_field(line: &[u8]) -> Option<(&[u8], &[u8])>
 pub fn fields(alloc: Global, line: &[u8]) -> Result<Vec<(usize, usize)>, AllocError>
     ensures fields { IfOk result (λ places. map (piece line.now) places.items ≡ fields line.now) }
     ensures inside { IfOk result (λ places. All (IsWithin line.now) places.items) }
+    ensures order { IfOk result (λ places. AreInOrder 0 places.items) }
 {
     let mut places = Vec::new(alloc);
     let mut at = 0;

@@ -11,4 +11,4 @@ mod writing;
 pub use field_reading::{begins, fields, is_blank, is_passed, next_field};
 pub use line_reading::{Lines, next_line};
 pub use reading::{read_dec, read_hex};
-pub use writing::{put_bytes, put_dec, put_dec_unsigned, put_hex8};
+pub use writing::{Piece, put_bytes, put_dec, put_dec_unsigned, put_hex8, put_line, put_pieces};

@@ -1,6 +1,7 @@
 //! The lines of a text, one after another, in the text's own memory.
 
 ghost use Rattle.std.specs.Prelude.{◌≡◌, ◌≢◌, ℕ, ◌+◌, ◌-◌, ◌^◌, ◌<◌, ◌≤◌, ◌==◌, ◌&&◌, [], ◌∷◌, length, take, if◌then◌else◌, not, IfNone, IfSome, OnSome};
+ghost use Rattle.std.specs.Io.BufRead.{drop_through};
 ghost use Rattle.std.specs.List.{prefix_len};
 ghost use Rattle.text_core.specs.Lines.{Cursor, ends_return, lines, without_return};
 
@@ -36,11 +37,12 @@ fn without_return(text: &[u8]) -> &[u8]
     text
 }
 
-/// The first line, without the line feed at its end and the one carriage return before it, and what follows the line.
-/// None where the text is at its end. A last line needs no line feed. Takes no memory.
+/// The first line, without the line feed at its end and the one carriage return before it, and what follows the line
+/// feed, which is nothing where there is none. None where the text is at its end. A last line needs no line feed. Takes no memory.
 pub fn next_line(text: &[u8]) -> Option<(&[u8], &[u8])>
     ensures none { IfNone result (text.now ≡ []) }
     ensures line { IfSome result (λ found. lines text.now ≡ found.0.now ∷ lines found.1.now) }
+    ensures rest { IfSome result (λ found. found.1.now ≡ drop_through 10 text.now) }
     ensures fewer { IfSome result (λ found. length found.1.now < length text.now) }
     ensures short { IfSome result (λ found. length found.0.now ≤ length text.now) }
 {
@@ -106,6 +108,7 @@ impl<'a> Lines<'a> {
         ensures none { IfNone result (self.old.left ≡ []) }
         ensures kept { IfNone result (self.new ≡ self.old) }
         ensures line { IfSome result (λ found. lines self.old.left ≡ found.1.now ∷ lines self.new.left) }
+        ensures rest { OnSome result (self.new.left ≡ drop_through 10 self.old.left) }
         ensures number { IfSome result (λ found. found.0 ≡ self.old.number) }
         ensures counted { OnSome result (self.new.number ≡ self.old.number + 1) }
         ensures fewer { OnSome result (length self.new.left < length self.old.left) }

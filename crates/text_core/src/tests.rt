@@ -1,6 +1,7 @@
 //! The texts of numbers, lines and fields, and that the calls succeed where memory is there.
 use crate::{
-    Lines, fields, next_field, put_bytes, put_dec, put_dec_unsigned, put_hex8, read_dec, read_hex,
+    Lines, Piece, fields, next_field, put_bytes, put_dec, put_dec_unsigned, put_hex8, put_line,
+    put_pieces, read_dec, read_hex,
 };
 use std::test::Fail;
 
@@ -152,11 +153,16 @@ fn lines_part_into_fields(rt: HostRuntime) -> Result<(), Fail> {
 #[test]
 fn pieces_follow_one_another(rt: HostRuntime) -> Result<(), Fail> {
     let mut out = Vec::new(rt.alloc());
-    put_bytes(&mut out, b"place ")?;
-    put_hex8(&mut out, 0x1000_0000)?;
-    put_bytes(&mut out, b" ")?;
-    put_dec(&mut out, -5)?;
-    put_bytes(&mut out, b"\n")?;
-    assert_eq!(rt; out.as_slice(), b"place 10000000 -5\n".as_slice());
+    put_line(&mut out, &[])?;
+    put_line(
+        &mut out,
+        &[
+            Piece::Text(b"place"),
+            Piece::Hex8(0x1000_0000),
+            Piece::Signed(-5),
+        ],
+    )?;
+    put_pieces(&mut out, &[Piece::Text(b"x"), Piece::Decimal(7)])?;
+    assert_eq!(rt; out.as_slice(), b"\nplace 10000000 -5\nx7".as_slice());
     Ok(())
 }

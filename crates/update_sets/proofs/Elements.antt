@@ -7,7 +7,7 @@ use Rattle.std.proofs.lemmas.List.{append-nil, take-append-drop}
 use Rattle.std.proofs.lemmas.List.Concat.{flat_map-append}
 use Rattle.std.proofs.lemmas.List.Elements.{filter-append}
 use Rattle.std.proofs.lemmas.List.FromFn.{filter_of_map_range_with_len_more, take-map-range_with_len}
-use Rattle.state_space.specs.declared.shape.Range.{Range}
+use Rattle.state_space.specs.declared.signature.Range.{Range}
 use Rattle.state_space.specs.Locations.{elements}
 use Rattle.state_space.specs.Codomains.{In, whole}
 use Rattle.update_sets.specs.Least.{first_of, first_or}
@@ -32,6 +32,18 @@ first_passing P p (x ∷ xs) e all h =
 -- the first element that passes is one of the domain
 pub first-in : (range : Range) (p : ℤ → Bool) (e : ℤ) → Some e ≡ first_of (filter p (elements range)) → In (whole range) e
 first-in range p e h = first_passing (λ v. In (whole range) v) p (elements range) e (all-in range 0 range.size (omega arith)) h
+
+first_passes_in : (p : ℤ → Bool) (xs : List ℤ) (e : ℤ) → Some e ≡ first_of (filter p xs) → p e ≡ true
+first_passes_in p [] e h = absurd cc
+first_passes_in p (x ∷ xs) e h =
+    elim (p x) as (λ b. p x ≡ b → Some e ≡ first_of (cond b (x ∷ filter p xs) (filter p xs)) → p e ≡ true) [
+      | true ↦ λ is k. let same : x ≡ e = cc in subst (λ v. p v ≡ true) same is
+      | false ↦ λ is k. first_passes_in p xs e k
+    ] refl h
+
+-- it passes
+pub first-passes : (range : Range) (p : ℤ → Bool) (e : ℤ) → Some e ≡ first_of (filter p (elements range)) → p e ≡ true
+first-passes range p e h = first_passes_in p (elements range) e h
 
 -- the first element that passes, where none before it does
 pub found-at : (p : ℤ → Bool) (lo : ℤ) (i n : ℕ) → i < n → filter p (first_elements lo i) ≡ [] → p (lo +ℤ pos i) ≡ true → Some (lo +ℤ pos i) ≡ first_of (filter p (first_elements lo n))

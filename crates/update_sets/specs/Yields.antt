@@ -8,7 +8,7 @@ use Rattle.asm_names.specs.declared.resolved_rule.ResolvedRule.{ResolvedRule}
 use Rattle.asm_names.specs.declared.resolved_rule.ResolvedRule.TheOpen.{ResolvedRule-F}
 use Rattle.asm_names.specs.declared.resolved_rule.ResolvedRule.TheFolds.{rec-ResolvedRule}
 use Rattle.state_space.specs.declared.update.Update.{Update}
-use Rattle.state_space.specs.Locations.{elements, range_of, place_among, state_locations, shapes_of}
+use Rattle.state_space.specs.Locations.{elements, range_of, place_among, state_locations, signatures_of}
 use Rattle.asm_ranges.specs.Values.{State, Inputs, Env, value, holds}
 
 -- a list of updates, which is read as a set
@@ -22,7 +22,7 @@ update_at (Some place) value = record { place = place; value = value } ∷ []
 
 -- the update of a function at these arguments, and none outside its domains: there the function has no location
 abbrev pub written : Resolved → ℕ → List ℤ → ℤ → Updates
-written program fun args value = update_at (place_among (state_locations (shapes_of program)) (record { fun = fun; args = args })) value
+written program fun args value = update_at (place_among (state_locations (signatures_of program)) (record { fun = fun; args = args })) value
 
 -- the elements of a domain at which a guard holds, the least first
 abbrev pub passing : Resolved → State → Inputs → Env → ℕ → ℕ → ResolvedTerm → List ℤ
@@ -49,22 +49,22 @@ Joined {A} P [] us = us ≡ []
 Joined {A} P (x ∷ xs) us = (first others : Updates) × P x first × Joined P xs others × (us ≡ first ++ others)
 
 -- one rule, where `yields` says what a part yields
-abbrev pub YieldsBy : Choice → Resolved → State → Inputs → (X : Type 0) → (X → ResolvedRule) → (X → Env → Updates → Type 0) → ResolvedRule-F X → Env → Updates → Type 0
-YieldsBy choice program state inputs X rule yields ResolvedRule-F.Skip env us = us ≡ []
-YieldsBy choice program state inputs X rule yields (ResolvedRule-F.Update fun args new) env us =
+abbrev pub YieldsLayer : Choice → Resolved → State → Inputs → (X : Type 0) → (X → ResolvedRule) → (X → Env → Updates → Type 0) → ResolvedRule-F X → Env → Updates → Type 0
+YieldsLayer choice program state inputs X rule yields ResolvedRule-F.Skip env us = us ≡ []
+YieldsLayer choice program state inputs X rule yields (ResolvedRule-F.Update fun args new) env us =
     us ≡ written program fun (map (value program state inputs env) args) (value program state inputs env new)
-YieldsBy choice program state inputs X rule yields (ResolvedRule-F.If guard then_rule else_rule has_else) env us =
+YieldsLayer choice program state inputs X rule yields (ResolvedRule-F.If guard then_rule else_rule has_else) env us =
     MatchBool (holds (value program state inputs env guard)) (yields then_rule env us) (yields else_rule env us)
-YieldsBy choice program state inputs X rule yields (ResolvedRule-F.Par rules) env us = Joined (λ part. yields part env) rules us
-YieldsBy choice program state inputs X rule yields (ResolvedRule-F.Forall binder domain guard guarded body) env us =
+YieldsLayer choice program state inputs X rule yields (ResolvedRule-F.Par rules) env us = Joined (λ part. yields part env) rules us
+YieldsLayer choice program state inputs X rule yields (ResolvedRule-F.Forall binder domain guard guarded body) env us =
     Joined (λ e. yields body (slice_set env binder e)) (passing program state inputs env binder domain guard) us
-YieldsBy choice program state inputs X rule yields (ResolvedRule-F.Choose binder domain guard body else_rule has_else) env us =
+YieldsLayer choice program state inputs X rule yields (ResolvedRule-F.Choose binder domain guard body else_rule has_else) env us =
     choice (passing program state inputs env binder domain guard) (λ e. yields body (slice_set env binder e) us) (yields else_rule env us)
-YieldsBy choice program state inputs X rule yields (ResolvedRule-F.Let binder bound body) env us =
+YieldsLayer choice program state inputs X rule yields (ResolvedRule-F.Let binder bound body) env us =
     yields body (slice_set env binder (value program state inputs env bound)) us
 
 unfoldable pub YieldsWith : Choice → Resolved → State → Inputs → ResolvedRule → Env → Updates → Type 0
-YieldsWith choice program state inputs = rec-ResolvedRule (Env → Updates → Type 0) (YieldsBy choice program state inputs)
+YieldsWith choice program state inputs = rec-ResolvedRule (Env → Updates → Type 0) (YieldsLayer choice program state inputs)
 
 -- the rule may yield these updates
 abbrev pub Yields : Resolved → State → Inputs → ResolvedRule → Env → Updates → Type 0

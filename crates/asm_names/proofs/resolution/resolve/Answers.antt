@@ -1,5 +1,7 @@
 use Rattle.asm_names.proofs.Common.{arith}
 use Rattle.asm_names.proofs.Numbering.{binders-tokens}
+use Rattle.std.proofs.Common.{refl}
+use Rattle.std.proofs.lemmas.Result.{err_from_is_err_and}
 use Rattle.asm_names.proofs.ProgramSpans.{program_ascending}
 use Rattle.asm_names.proofs.resolution.resolve.Goals as goal
 
@@ -14,3 +16,8 @@ returns-in_err-legal-clause-ordered c = program_ascending c.args.program.now
 
 pub returns-in_err-rule-clause-ordered : goal.returns-in_err-rule-clause-ordered
 returns-in_err-rule-clause-ordered c = program_ascending c.args.program.now
+
+pub returns-in_err-no_intervals-clause-first : goal.returns-in_err-no_intervals-clause-first
+returns-in_err-no_intervals-clause-first c =
+    let p = err_from_is_err_and c.from_residual-in_err-no_intervals.result c.from_residual-in_err-no_intervals.ensures.1 in
+    rw (p.1, p.2) (λ real. absurd (real refl))

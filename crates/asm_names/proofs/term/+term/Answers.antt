@@ -1,10 +1,12 @@
-use Rattle.asm_names.proofs.Common.{arith, sym, ap, ◌∙◌, map, scope, term_tokens, parted}
+use Rattle.std.proofs.Common.{rules}
+use Rattle.asm_names.proofs.Common.{Ok, arith, sym, ap, ◌∙◌, map, scope, term_tokens, parted}
 use Rattle.std.proofs.lemmas.Grind.{common_steps}
-use Rattle.asm_names.proofs.Levels.{tokens_of, whole}
+use Rattle.asm_names.proofs.Levels.{faults_at, tokens_of, whole}
 use Rattle.asm_names.proofs.Firsts.{stopped}
 use Rattle.asm_names.proofs.InTurn.{drop-next}
 use Rattle.asm_names.proofs.Separated.{parted-in_parentheses, each_faults-next}
 use Rattle.asm_tree.specs.declared.term.Term.TheVariants as terms
+use Rattle.std.proofs.lemmas.List.{append-nil}
 use Rattle.asm_names.proofs.term.+term.Goals as goal
 
 pub term-number-requires : goal.term-number-requires
@@ -28,8 +30,15 @@ term-pair-requires-in-Max t c = let tokens = tokens_of _ _ (terms.rolls-Max _ _ 
 pub term-conditional-requires : goal.term-conditional-requires
 term-conditional-requires t c = let tokens = tokens_of _ _ (terms.rolls-Cond _ _ _ ∙ sym c.in-Cond.is) in (omega (arith, tokens), omega (arith, tokens))
 
-pub term-returns-in-Number : goal.term-returns-in-Number
-term-returns-in-Number t c = whole _ _ (terms.rolls-Number _ ∙ sym c.in-Number.is) _ _ _ _ _ c.number.ensures
+pub term-returns-in_ok-number-in-Number : goal.term-returns-in_ok-number-in-Number
+term-returns-in_ok-number-in-Number t c =
+    whole _ _ (terms.rolls-Number _ ∙ sym c.in-Number.is) (scope c.args.table.now) c.args.need c.args.place.now (Ok c.in_ok-number-in-Number.field-0) c.number.new.place
+    (append-nil _ ∙ c.in_ok-number-in-Number.ensures.0, c.in_ok-number-in-Number.ensures.1)
+
+pub term-returns-in_err-number-in-Number : goal.term-returns-in_err-number-in-Number
+term-returns-in_err-number-in-Number t c =
+    let faults = faults_at _ _ (terms.rolls-Number _ ∙ sym c.in-Number.is) (scope c.args.table.now) c.args.need c.args.place.now ∙ append-nil _ in
+    search (rules, faults)
 
 pub term-returns-in-Apply : goal.term-returns-in-Apply
 term-returns-in-Apply t c = whole _ _ (terms.rolls-Apply _ _ ∙ sym c.in-Apply.is) _ _ _ _ _ c.apply.ensures

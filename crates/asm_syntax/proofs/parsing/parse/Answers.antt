@@ -11,9 +11,9 @@ returns-in-Ok-clause-found c = program_found (kinds c.args.list.now) c.program.n
 pub returns-in-Ok-clause-only : goal.returns-in-Ok-clause-only
 returns-in-Ok-clause-only c = λ p is e. ok_answers (kinds c.args.list.now) c.program.new.cursor c.in-Ok.found p (ap program (sym c.new-cursor.ensures) ∙ c.in-Ok.ensures) is e
 
-pub returns-in-Err-clause-only : goal.returns-in-Err-clause-only
-returns-in-Err-clause-only c = λ p is e. err_answers (kinds c.args.list.now) _ c.in-Err.stop c.end_of.result p (λ some. ap program (sym c.new-cursor.ensures) ∙ c.in-Err.ensures some) c.end_of.ensures is e
+pub returns-in-Err-Stopped-clause-only : goal.returns-in-Err-Stopped-clause-only
+returns-in-Err-Stopped-clause-only c = λ p is e. err_answers (kinds c.args.list.now) _ c.in-Err-Stopped.stop c.end_of.result p (ap program (sym c.new-cursor.ensures) ∙ c.in-Err-Stopped.ensures c.in-Err-Stopped.stop c.in-Err-Stopped.field-0-is) c.end_of.ensures is e
 
-pub returns-in-Err-clause-refused : goal.returns-in-Err-clause-refused
-returns-in-Err-clause-refused c =
-    err_refused (kinds c.args.list.now) _ c.in-Err.stop c.end_of.result (sym (length-map c.args.list.now (λ t. t.kind))) (λ some. ap program (sym c.new-cursor.ensures) ∙ c.in-Err.ensures some) c.end_of.ensures
+pub returns-in-Err-Stopped-clause-refused : goal.returns-in-Err-Stopped-clause-refused
+returns-in-Err-Stopped-clause-refused c =
+    err_refused (kinds c.args.list.now) _ c.in-Err-Stopped.stop c.end_of.result (sym (length-map c.args.list.now (λ t. t.kind))) (ap program (sym c.new-cursor.ensures) ∙ c.in-Err-Stopped.ensures c.in-Err-Stopped.stop c.in-Err-Stopped.field-0-is) c.end_of.ensures

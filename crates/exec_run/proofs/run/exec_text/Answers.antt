@@ -26,10 +26,10 @@ returns-clause-text g c =
     let end = after c.args.rom.now c.args.ticks c.args.readings start in
     rw (
       c.from_vec.ensures,
-      c.in_ok-put_ram.ensures,
-      c.in_ok-put_registers.ensures,
-      c.in_ok-put_pc.ensures,
-      c.in_ok-put_summary.ensures,
+      c.in_ok-put_ram.ensures.ok,
+      c.in_ok-put_registers.ensures.ok,
+      c.in_ok-put_pc.ensures.ok,
+      c.in_ok-put_summary.ensures.ok,
       c.in_ok-counts.ensures.lines,
       c.in_ok-counts.ensures.traps,
       c.in_ok-counts.ensures.readings,

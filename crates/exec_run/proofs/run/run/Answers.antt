@@ -1,3 +1,4 @@
+use Rattle.text_core.proofs.Begun.{begun_more}
 use Rattle.exec_run.proofs.Counting.{running-took, running-trapped, running-sent, running-quiet}
 use Rattle.exec_run.proofs.run.run.Goals.{then-ticked, else-ticked+then-ticked-2, else-ticked+else-ticked-2+in-Some+in_ok-put_send, else-ticked+else-ticked-2+in_default}
 use Rattle.exec_run.proofs.run.run.Goals as goal
@@ -5,19 +6,24 @@ use Rattle.exec_run.proofs.run.run.Goals as goal
 pub loop-number-preserved : goal.loop-number-preserved
 loop-number-preserved g c =
     let below = c.loop-number-test.true in
-    let before = c.loop-number.invariant in
+    let before = c.loop-number.invariant.1 in
+    let begun = c.loop-number.invariant.0 in
     let m = c.tick-ticked.new.self in
     let ticked = c.tick-ticked.result in
     let e = c.tick-ticked.ensures in
     elim c.if-ticked.branch [
-      | then-ticked w ↦
-          rw (w.out-is, w.feed-is, w.traps-is, w.readings-is, w.reading-is)
-          (running-took below before m ticked e.hart e.event w.if-ticked.true w.advance.new.self.left w.peek-reading-then-ticked.result w.advance.ensures.left w.peek-reading-then-ticked.ensures)
+      | then-ticked w ↦ (
+        rw w.out-is begun,
+        rw (w.out-is, w.feed-is, w.traps-is, w.readings-is, w.reading-is)
+            (running-took below before m ticked e.hart e.event w.if-ticked.true w.advance.new.self.left w.peek-reading-then-ticked.result w.advance.ensures.left w.peek-reading-then-ticked.ensures),
+      )
       | else-ticked+then-ticked-2 w ↦
-          rw (w.out-is, w.feed-is, w.traps-is, w.readings-is, w.reading-is) (running-trapped below before m ticked e.hart e.event w.if-ticked-2.true)
-      | else-ticked+else-ticked-2+in-Some+in_ok-put_send w ↦
-          rw (w.out-is, w.feed-is, w.traps-is, w.readings-is, w.reading-is, w.in_ok-put_send.ensures)
-          (running-sent below before m ticked e.hart e.event w.in-Some.port w.in-Some.word w.in-Some.is)
+          (rw w.out-is begun, rw (w.out-is, w.feed-is, w.traps-is, w.readings-is, w.reading-is) (running-trapped below before m ticked e.hart e.event w.if-ticked-2.true))
+      | else-ticked+else-ticked-2+in-Some+in_ok-put_send w ↦ (
+        rw (w.out-is, w.in_ok-put_send.ensures.ok) (begun_more _ _ _ begun),
+        rw (w.out-is, w.feed-is, w.traps-is, w.readings-is, w.reading-is, w.in_ok-put_send.ensures.ok)
+            (running-sent below before m ticked e.hart e.event w.in-Some.port w.in-Some.word w.in-Some.is),
+      )
       | else-ticked+else-ticked-2+in_default w ↦
-          rw (w.out-is, w.feed-is, w.traps-is, w.readings-is, w.reading-is) (running-quiet below before m ticked e.hart e.event w.if-ticked.false w.if-ticked-2.false w.in_default.is)
+          (rw w.out-is begun, rw (w.out-is, w.feed-is, w.traps-is, w.readings-is, w.reading-is) (running-quiet below before m ticked e.hart e.event w.if-ticked.false w.if-ticked-2.false w.in_default.is))
     ]

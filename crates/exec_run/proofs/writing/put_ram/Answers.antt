@@ -1,4 +1,5 @@
 use Rattle.std.proofs.Common.{◌/◌, ◌++◌}
+use Rattle.text_core.proofs.Begun.{begun_more}
 use Rattle.exec_run.specs.ExecText.{ram_lines}
 use Rattle.text_core.specs.WrittenLines.{lines_text}
 use Rattle.exec_run.proofs.Changes.{written-changed, written-same}
@@ -14,10 +15,14 @@ loop-number-preserved g c =
     let number = c.loop-number.number in
     let whole = c.args.out.now.items ++ lines_text (ram_lines count 0 start end) in
     elim c.if-word.branch [
-      | then-word+in_ok-put_ram_word w ↦
-          rw (w.out-is, w.in_ok-put_ram_word.ensures, c.word-word.ensures)
-          (written-changed count number start end out whole c.loop-number-test.true c.loop-number.invariant (λ same. w.if-word.true cc))
-      | else-word w ↦
-          rw w.out-is
-          (written-same count number start end out whole c.loop-number-test.true c.loop-number.invariant cc)
+      | then-word+in_ok-put_ram_word w ↦ (
+        rw (w.out-is, w.in_ok-put_ram_word.ensures.ok, c.word-word.ensures)
+            (written-changed count number start end out whole c.loop-number-test.true c.loop-number.invariant.0 (λ same. w.if-word.true cc)),
+        rw (w.out-is, w.in_ok-put_ram_word.ensures.ok) (begun_more out _ _ c.loop-number.invariant.1),
+      )
+      | else-word w ↦ (
+        rw w.out-is
+            (written-same count number start end out whole c.loop-number-test.true c.loop-number.invariant.0 cc),
+        rw w.out-is c.loop-number.invariant.1,
+      )
     ]

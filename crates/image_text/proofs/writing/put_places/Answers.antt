@@ -15,11 +15,11 @@ no_more (f ∷ fs) [] (suc n) e = absurd (omega arith)
 no_more (f ∷ fs) (x ∷ es) zero e = absurd (omega arith)
 no_more (f ∷ fs) (x ∷ es) (suc n) e = no_more fs es n (omega arith)
 
-pub returns : goal.returns
-returns c =
+pub returns-clause-ok : goal.returns-clause-ok
+returns-clause-ok c =
     let fs = c.args.functions.now in
     let es = c.args.map.now in
     let out = c.loop-function.out.items in
     let end = zip_end fs es c.loop-function.yielded c.into_iter-function-iterator.result c.loop-function.function-iterator c.next.new.self c.next.result (search rules) (search rules) c.loop-function.yielded_by c.in-None.is c.next.ensures.steps in
     let all = no_more fs es (length c.loop-function.yielded) end in
-    sym (append-nil out) ∙ ap (λ ls. out ++ lines_text ls) (sym all) ∙ c.loop-function.invariant
+    sym (append-nil out) ∙ ap (λ ls. out ++ lines_text ls) (sym all) ∙ c.loop-function.invariant.0

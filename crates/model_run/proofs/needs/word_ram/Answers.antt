@@ -1,5 +1,5 @@
 use Rattle.std.proofs.Common.{◌<◌, length, ap, arith}
-use Rattle.state_space.proofs.Padding.{shape_read, sized_from}
+use Rattle.state_space.proofs.Padding.{signature_read, sized_from}
 use Rattle.model_run.proofs.Sums.{fits-little, needs-all}
 use Rattle.model_run.proofs.needs.word_ram.Goals as goal
 
@@ -8,7 +8,7 @@ own_need-requires c =
     let program = c.args.program.now in
     let same = c.as_slice-function-items.ensures in
     let below : c.loop-function.function-index < length program.funs = omega (arith, c.loop-function-test.true, ap length same) in
-    rw c.as_slice-domains.ensures (sized_from _ _ _ c.resolved_functions_are_sized.ensures (shape_read program.domains _ _ _ _ same c.function-item.is below))
+    rw c.as_slice-domains.ensures (sized_from _ _ _ c.resolved_functions_are_sized.ensures (signature_read program.domains _ _ _ _ same c.function-item.is below))
 
 pub returns-clause-need : goal.returns-clause-need
 returns-clause-need c =

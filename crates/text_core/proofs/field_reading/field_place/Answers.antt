@@ -1,5 +1,6 @@
-use Rattle.std.proofs.Common.{sym, ◌∙◌, arith}
+use Rattle.std.proofs.Common.{◌≡◌, ◌+◌, sym, ◌∙◌, arith, refl}
 use Rattle.std.proofs.lemmas.List.{take_rest}
+use Rattle.text_core.specs.Fields.{first_end}
 use Rattle.text_core.proofs.FirstField.{first_place, no_field}
 use Rattle.text_core.proofs.field_reading.field_place.Goals as goal
 
@@ -8,5 +9,9 @@ returns-then-start-line-clause-none c = no_field c.args.line.now (sym c.blanks-s
 
 pub returns : goal.returns
 returns c =
-    let first = first_place c.args.line.now c.blanks-start.result c.field_len.result c.blanks-start.ensures.value (omega arith) (rw take_rest at c.field_len.ensures.value) in
-    record { none = tt; field = first.field; some = first.some; inside = first.inside }
+    let line = c.args.line.now in
+    let blanks = c.blanks-start.ensures.value in
+    let len = rw take_rest at c.field_len.ensures.value in
+    let end : c.blanks-start.result + c.field_len.result ≡ first_end line = rw (len, ← blanks) refl in
+    let first = first_place line c.blanks-start.result c.field_len.result blanks (omega arith) len in
+    record { none = tt; field = first.field; end = end; some = first.some; inside = first.inside }

@@ -5,5 +5,5 @@ use Rattle.asm_names.proofs.declarations.Declarations.constants.Goals as goal
 
 pub returns-in_err-find_const : goal.returns-in_err-find_const
 returns-in_err-find_const c =
-    let found = stopped_at (λ cs. consts_faults (scope c.loop-constant.self.table) (needs.Only c.args.values) cs c.loop-constant.self.place) _ _ _ c.loop-constant-test.true c.constant-item.is _ _ _ _ c.loop-constant.invariant.rest refl c.in_err-find_const.ensures in
+    let found = stopped_at (λ cs. consts_faults (scope c.loop-constant.self.table) (needs.Only c.args.values) cs c.loop-constant.self.place) _ _ _ c.loop-constant-test.true c.constant-item.is _ _ _ _ c.loop-constant.invariant.rest refl (λ (_ : Unit {0}). c.in_err-find_const.ensures) tt in
     grind (arith, found)

@@ -1,4 +1,4 @@
-use Rattle.asm_names.proofs.Common.{◌≡◌, ◌+◌, arith, sym, refl, ap, ◌∙◌, map, drop, sum, sum_by-cons, rule_tokens, rule_binders, led, scope, each_rule_faults, faulty}
+use Rattle.asm_names.proofs.Common.{Ok, ◌≡◌, ◌+◌, arith, sym, refl, ap, ◌∙◌, map, drop, sum, sum_by-cons, rule_tokens, rule_binders, led, scope, each_rule_faults, faulty}
 use Rattle.asm_names.proofs.Firsts.{first_rules}
 use Rattle.asm_names.proofs.InTurn.{layer-If, layer-Choose, drop-next, stopped_at}
 use Rattle.asm_names.proofs.RuleLevels.{tokens_of, whole, room_of}
@@ -27,7 +27,7 @@ pub rule-local-requires : goal.rule-local-requires
 rule-local-requires t c = let tokens = tokens_of _ _ (variants.rolls-Let _ _ _ ∙ sym c.in-Let.is) in (omega (arith, tokens), room_of _ _ (variants.rolls-Let _ _ _ ∙ sym c.in-Let.is) _ _ c.requires.room c.requires.bound_room)
 
 pub rule-returns-in-Skip : goal.rule-returns-in-Skip
-rule-returns-in-Skip t c = whole _ _ (variants.rolls-Skip ∙ sym c.in-Skip.is) _ _ _ c.skip.ensures
+rule-returns-in-Skip t c = whole _ _ (variants.rolls-Skip ∙ sym c.in-Skip.is) c.args.self.now (Ok c.skip.result) c.skip.new.self (refl, (c.skip.ensures.rule, c.skip.ensures.passes))
 
 pub rule-returns-in-Update : goal.rule-returns-in-Update
 rule-returns-in-Update t c = whole _ _ (variants.rolls-Update _ _ _ ∙ sym c.in-Update.is) _ _ _ c.update.ensures

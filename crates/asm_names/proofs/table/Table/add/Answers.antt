@@ -1,4 +1,5 @@
 use Rattle.asm_names.proofs.Common.{ap, ◌∙◌, ◌≡◌, refl, Vec, ℕ, Global, Bool}
+use Rattle.std.proofs.Common.{rules}
 use Rattle.std.specs.Prelude.{bytes_eq}
 use Rattle.indexmap.proofs.CallerLemmas.{insert_entry-new}
 use Rattle.asm_names.specs.Table.{scope}
@@ -13,3 +14,7 @@ returns-clause-added c =
     let none = absent (bytes_eq c.in_ok-key.key.items) c.args.self.now.entries.entries (rw key c.requires) in
     let put = c.in_ok-insert.ensures.entries ∙ insert_entry-new same c.args.self.now.entries c.in_ok-key.key c.args.entry none in
     ap view put ∙ (added c.args.self.now.entries.entries c.in_ok-key.key c.args.entry ∙ rw key refl)
+
+pub returns-in_err-insert-clause-refused : goal.returns-in_err-insert-clause-refused
+unfolding scope
+returns-in_err-insert-clause-refused c = search rules

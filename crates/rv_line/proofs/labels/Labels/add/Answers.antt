@@ -6,8 +6,8 @@ use Rattle.indexmap.proofs.CallerLemmas.{insert_entry-new}
 use Rattle.rv_line.proofs.Entries.{view, found, added}
 use Rattle.rv_line.proofs.labels.Labels.add.Goals as goal
 
-pub returns : goal.returns
-returns c =
+pub returns-clause-ok : goal.returns-clause-ok
+returns-clause-ok c =
     let words = c.self.inside.words in
     let key : c.in_ok-key.key.items ≡ c.args.label.now = c.in_ok-key.ensures.items in
     let same : Vec ℕ Global → Vec ℕ Global → Bool = λ x y. bytes_eq x.items y.items in
