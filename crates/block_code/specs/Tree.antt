@@ -1,7 +1,7 @@
 -- What a tree of the program is as plain data.
 use Rattle.block_code.specs.declared.tree.Tree.{Tree, Line, Seq', If', Loop', Scan'}
-use Rattle.block_laws.specs.Plan.{Plan}
-use Rattle.block_laws.specs.Plan as plan
+use Rattle.block_code.specs.Plan.{Plan}
+use Rattle.block_code.specs.Plan as plan
 
 -- the plan of a tree
 abbrev pub plan_of : Tree → Plan

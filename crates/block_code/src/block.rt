@@ -1,9 +1,9 @@
 //! Blocks, and their numbers.
 
 ghost use Rattle.std.specs.Prelude.{◌≡◌, ◌≤◌, ◌^◌};
-ghost use Rattle.block_laws.specs.Block.{IsBlock, IsInRange};
-ghost use Rattle.block_laws.specs.Law.{LawOfEffect, LawOfEntry, LawOfNest, LawOfNoReturn, LawOfStart, LawOfTop};
-ghost use Rattle.block_laws.specs.Plan as plan;
+ghost use Rattle.block_code.specs.Block.{IsBlock, IsInRange};
+ghost use Rattle.block_code.specs.Law.{LawOfEffect, LawOfEntry, LawOfNest, LawOfNoReturn, LawOfStart, LawOfTop};
+ghost use Rattle.block_code.specs.Plan as plan;
 ghost use Rattle.block_code.specs.Tree.{plan_of};
 
 use crate::tree::Tree;
@@ -20,7 +20,7 @@ impl Model for Block {
     ghost use Rattle.block_code.specs.declared.tree.Tree as the_tree;
     ghost use Rattle.block_code.specs.contracts.tree.Tree as tree_row;
     ghost use Rattle.std.specs.Coded.{codes};
-    ghost use Rattle.block_laws.specs.Block.{IsInRange};
+    ghost use Rattle.block_code.specs.Block.{IsInRange};
     ghost use Rattle.block_code.specs.Tree.{plan_of};
 
     ghost Value = { the_tree.Tree };

@@ -3,8 +3,8 @@
 ghost use Rattle.std.specs.Prelude.{◌≡◌, ◌+◌, ◌≤◌, ◌++◌, OnErr, OnOk, length};
 ghost use Rattle.block_code.specs.Emit.{HasBegun, HasGrown, IsEmitted};
 ghost use Rattle.block_code.specs.Tree.{plan_of};
-ghost use Rattle.block_laws.specs.Block.{IsBlock};
-ghost use Rattle.block_laws.specs.Plan as plan;
+ghost use Rattle.block_code.specs.Block.{IsBlock};
+ghost use Rattle.block_code.specs.Plan as plan;
 
 use crate::block::{Block, tree_len};
 use crate::own::{choice, forward, head, judged_tail, tail};

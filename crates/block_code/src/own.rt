@@ -1,7 +1,7 @@
 //! The code that blocks have of their own.
 
 ghost use Rattle.std.specs.Prelude.{◌≡◌, ℕ, ℤ, pos, ◌+◌, ◌<◌, ◌≤◌, ◌^◌, ◌⊎◌, ◌++◌, ◌∷◌, []};
-ghost use Rattle.block_laws.specs.Plan as plan;
+ghost use Rattle.block_code.specs.Plan as plan;
 
 use crate::operands::{imm_b, imm_j, imm12, reg};
 use crate::sequence::{

@@ -2,7 +2,7 @@
 
 ghost use Rattle.std.specs.Prelude.{◌≡◌, ◌<◌, ◌^◌, ◌+◌};
 ghost use Rattle.rv_isa.specs.Operand.{IsImm12, IsImmU};
-ghost use Rattle.block_laws.specs.Sequence as sequence;
+ghost use Rattle.block_code.specs.Sequence as sequence;
 ghost use Rattle.trap_model.specs.Map.{ram_base};
 
 use crate::operands::{imm_u, imm12, reg};
@@ -34,8 +34,8 @@ pub(crate) fn ram_address(offset: u32) -> u32
     RAM_BASE + offset
 }
 
-/// A load of the width, extended by zeros.
-fn load_by(width: Width, rd: Reg, rs1: Reg, imm: Imm12) -> Instr
+/// A load of the width, extended by zeros, at the address in a register and a displacement.
+pub fn load_by(width: Width, rd: Reg, rs1: Reg, imm: Imm12) -> Instr
     ensures { result ≡ sequence.load_by width rd rs1 imm }
 {
     match width {

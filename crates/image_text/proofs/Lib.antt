@@ -1,5 +1,10 @@
-pub mod Parting
+pub mod Bounds
 pub mod Fields
-pub mod Readable
-pub mod Telling
+pub mod Inside
+pub mod Listing
 pub mod MoreWords
+pub mod Parting
+pub mod Readable
+pub mod Sections
+pub mod Telling
+pub mod Written

@@ -3,6 +3,8 @@
 #![tactic(auto)]
 
 mod law;
+mod locations;
+mod names;
 mod reading;
 mod writing;
 

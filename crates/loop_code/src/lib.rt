@@ -2,14 +2,13 @@
 #![tactic(auto)]
 
 ghost use Rattle.std.specs.Prelude.{◌≡◌, ◌≤◌, ◌+◌, ◌*◌, ◌^◌, max, IfOk};
-ghost use Rattle.block_laws.specs.Block.{IsCount, IsInRange, IsSlot, Keeps};
-ghost use Rattle.block_laws.specs.Law.{LawOfEffect, LawOfEntry, LawOfNoReturn, LawOfTop};
-ghost use Rattle.block_laws.specs.Plan as plan;
+ghost use Rattle.block_code.specs.Block.{IsCount, IsInRange, IsSlot, Keeps};
+ghost use Rattle.block_code.specs.Law.{LawOfEffect, LawOfEntry, LawOfNoReturn, LawOfTop};
+ghost use Rattle.block_code.specs.Plan as plan;
 ghost use Rattle.block_code.specs.Tree.{plan_of};
 
-use block_code::{Block, Tree};
-use block_laws::{
-    blocks_do_their_structure, blocks_end_from_anywhere, blocks_end_from_the_top,
+use block_code::{
+    Block, Tree, blocks_do_their_structure, blocks_end_from_anywhere, blocks_end_from_the_top,
     blocks_never_return,
 };
 use rv_isa::Reg;

@@ -2,15 +2,16 @@
 
 ghost use Rattle.std.specs.Prelude.{◌≡◌, ◌<◌, ◌≤◌, ℕ, pos, IfOk};
 ghost use Rattle.block_code.specs.Tree.{plan_of};
-ghost use Rattle.block_laws.specs.Block.{Keeps, Spares};
-ghost use Rattle.block_laws.specs.Plan as plan;
+ghost use Rattle.block_code.specs.Block.{Keeps, Spares};
+ghost use Rattle.block_code.specs.Plan as plan;
 ghost use Rattle.rv_isa.specs.declared.instr.Instr.TheVariants as instr;
 
 mod sequences;
 
 use crate::{counted, scan};
-use block_code::{Block, Instrs, Tree, emit, entry, full, len};
-use block_laws::{spared_words_are_kept, storeless_lines_keep};
+use block_code::{
+    Block, Instrs, Tree, emit, entry, full, len, spared_words_are_kept, storeless_lines_keep,
+};
 use rv_encode::Words;
 use rv_isa::{Imm12, ImmU, Instr, Reg};
 use rv_machine::{Hart, Rom};

@@ -1,5 +1,5 @@
 -- What the masks do: each leads from its top to this moment. Where it leads, it leads nowhere else, and does not trap.
-use Rattle.std.specs.Prelude.{◌≡◌, ℕ, ◌+◌, ◌-◌, ◌*◌, ◌%◌, ◌^◌, ◌<◌, ◌≤◌, ℤ, pos, ◌+ℤ◌, ◌-ℤ◌, List, Bool, true, FitsSigned}
+use Rattle.std.specs.Prelude.{◌≡◌, ℕ, ◌+◌, ◌-◌, ◌*◌, ◌%◌, ◌^◌, ◌<◌, ◌≤◌, ℤ, pos, ◌+ℤ◌, ◌-ℤ◌, List, FitsSigned}
 use Rattle.std.specs.Int.{w32}
 use Rattle.rv_machine.specs.Memory.{number_at}
 use Rattle.rv_machine.specs.Word.{minus, plus, shifted_left, shifted_right}
@@ -9,13 +9,12 @@ use Rattle.trap_model.specs.declared.width.Width.{Width}
 use Rattle.state_space.specs.declared.signature.Range.{Range}
 use Rattle.state_space.specs.Decoding.{index_of}
 use Rattle.state_space.specs.Sizes.{IsRange}
-use Rattle.block_laws.specs.Effect.{LineDoes, reg_at, saved, written}
-use Rattle.block_laws.specs.Moment.{Moment}
-use Rattle.block_laws.specs.Place.{IsAtTop, IsMachine}
-use Rattle.block_laws.specs.Plan.{AreStoreless, IsLine}
-use Rattle.block_laws.specs.Region.{LineStoresOnly}
-use Rattle.block_laws.specs.Sequence.{scratch}
-use Rattle.block_laws.specs.SequenceLaw.{IsOffset}
+use Rattle.block_code.specs.Effect.{LineDoes, reg_at, saved, written}
+use Rattle.block_code.specs.Moment.{Moment}
+use Rattle.block_code.specs.Place.{IsAtTop, IsMachine}
+use Rattle.block_code.specs.Plan.{AreStoreless, IsLine}
+use Rattle.block_code.specs.Sequence.{scratch}
+use Rattle.block_code.specs.SequenceLaw.{IsOffset}
 use Rattle.mask_guard.specs.Mask.{address_of, decode_value, load_cell, mask_index, shift_of, store_cell, word_of}
 
 -- one of the registers in which terms are worked out
@@ -87,24 +86,6 @@ CellIsStored =
     (rom : List ℕ) (size address : ℕ) (width : Width) (base register offset : ℕ) (s : Moment) → IsMachine rom size → IsAtTop size address (store_cell width base register) s
     → reg_at base s ≡ ram_base + offset → IsOffset width offset → offset < size
     → LineDoes rom address (store_cell width base register) s (saved (address + 4) (bytes_of width) offset (reg_at register s) s)
-
--- ---- ports and RAM
-
--- where a cell's address is one of RAM, its load and its store use no port, whether they trap or not
-abbrev pub CellsUseNoPort : Type 0
-CellsUseNoPort =
-    (rom : List ℕ) (size address : ℕ) (width : Width) (base register offset : ℕ) (s : Moment) → IsMachine rom size → IsAtTop size address (store_cell width base register) s
-    → reg_at base s ≡ ram_base + offset → offset < 2 ^ 20
-    → ((s' : Moment) → LineDoes rom address (load_cell width base) s s' → (s'.log ≡ s.log) × (s'.readings ≡ s.readings))
-    × ((s' : Moment) → LineDoes rom address (store_cell width base register) s s' → (s'.log ≡ s.log) × (s'.readings ≡ s.readings))
-
--- a store at the offset of a region stores in it alone
-abbrev pub CellStoresOnly : Type 0
-CellStoresOnly =
-    (rom : List ℕ) (region : ℕ → Bool) (size address : ℕ) (width : Width) (base register offset : ℕ) (s : Moment) → IsMachine rom size
-    → IsAtTop size address (store_cell width base register) s → reg_at base s ≡ ram_base + offset → IsOffset width offset
-    → ((o : ℕ) → offset ≤ o → o < offset + bytes_of width → region o ≡ true)
-    → LineStoresOnly rom (λ o. region o ≡ true) address (store_cell width base register) s
 
 -- the masks are lines, and store nothing
 abbrev pub MasksAreLines : Type 0

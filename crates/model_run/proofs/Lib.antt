@@ -1,5 +1,5 @@
+pub mod Arguments
 pub mod Each
 pub mod Functions
 pub mod Rounds
-pub mod Sums
 pub mod Tuples

@@ -1,12 +1,11 @@
-//! Runs of a checked program by its meaning alone, the text of what they did, and how much memory a machine would need
-//! for them.
+//! Runs of a checked program by its meaning alone, and the text of what they did.
 #![tactic(auto)]
 
-mod needs;
+mod location_writing;
 mod run;
 mod run_writing;
 mod state_writing;
 
-pub use needs::word_ram;
+pub use location_writing::put_location;
 pub use run::model_text;
 pub use state_writing::put_state;

@@ -2,32 +2,17 @@
 
 ghost use Rattle.std.specs.Prelude.{◌≡◌};
 
-use crate::map::Entry;
-use rv_encode::Words;
+use bound_count::Numbers;
+use rom_anchor::Image;
 use rv_machine::Rom;
+use state_layout::Map;
 use std::marker::Model;
-
-/// The bounds of an image, in bytes, words, ticks and registers.
-#[derive(Clone, Copy, Debug, PartialEq, Eq)]
-pub struct Numbers {
-    /// The bytes of RAM that it works with, from offset 0 on.
-    pub ram: u64,
-    /// The words of ROM that may be written, from address 0 on.
-    pub rom: u64,
-    /// The ticks from anywhere to the loop head.
-    pub anchor: u64,
-    /// The ticks of a round, from the loop head to the loop head.
-    pub round: u64,
-    /// The registers that its code works with.
-    pub regs: u64,
-}
 
 /// An image for a ROM and a RAM of so many bytes, with its map and its bounds. Contracts see it as a `Compiled`.
 #[derive(Drop)]
 pub struct Built<const ROM: u32, const RAM: u32> {
-    rom: Rom<ROM>,
-    written: Words,
-    map: Vec<Entry>,
+    image: Image<ROM>,
+    map: Map,
     needs: Numbers,
 }
 
@@ -36,38 +21,41 @@ impl<const ROM: u32, const RAM: u32> Model for Built<ROM, RAM> {
 
     ghost Value = { Compiled };
 
-    ghost view = { λ b. record { rom = b.rom; written = b.written; map = b.map.items; needs = b.needs } };
+    ghost view = { λ b. record { rom = b.image.rom; written = b.image.written; map = b.map; needs = b.needs } };
 }
 
 impl<const ROM: u32, const RAM: u32> Built<ROM, RAM> {
     /// The image of these parts, which `Stabilizes` has to be proved of.
-    pub fn of(rom: Rom<ROM>, written: Words, map: Vec<Entry>, needs: Numbers) -> Self
-        ensures { result ≡ record { rom = rom.entry; written = written; map = map.items; needs = needs } }
+    pub fn of(image: Image<ROM>, map: Map, needs: Numbers) -> Self
+        ensures { result ≡ record { rom = image.entry.rom; written = image.entry.written; map = map; needs = needs } }
     {
-        Built {
-            rom,
-            written,
-            map,
-            needs,
-        }
+        Built { image, map, needs }
+    }
+
+    /// The words of ROM, and those of them that were written.
+    pub fn image(&self) -> &Image<ROM>
+        ensures rom { result.now.rom ≡ self.now.rom }
+        ensures written { result.now.written ≡ self.now.written }
+    {
+        &self.image
     }
 
     /// The words of ROM: those that were written, and behind them the padding.
     pub fn rom(&self) -> &Rom<ROM>
         ensures { result.now ≡ self.now.rom }
     {
-        &self.rom
+        &self.image.rom
     }
 
     /// The written words, from address 0 on, without the padding.
     pub fn written(&self) -> &[u32]
         ensures { result.now ≡ self.now.written }
     {
-        self.written.list()
+        self.image.written.list()
     }
 
-    /// The entries of the state's locations, in the order of declaration.
-    pub fn map(&self) -> &[Entry]
+    /// Where RAM holds the state.
+    pub fn map(&self) -> &Map
         ensures { result.now ≡ self.now.map }
     {
         &self.map

@@ -5,10 +5,10 @@ ghost use Rattle.rv_machine.specs.Hart.{IsValid};
 ghost use Rattle.rv_machine.specs.Run.{RunsTo};
 ghost use Rattle.round_spec.specs.Heads.{IsAway, IsFirstHead};
 ghost use Rattle.round_spec.specs.Round.{Round};
-ghost use Rattle.round_spec.specs.Stabilizes.{Stabilizes};
+ghost use Rattle.round_spec.specs.Stabilizes.{IsStable};
 
 use crate::built::Built;
-use plain_program::Plain;
+use asm_ranges::Checked;
 use rv_machine::{Feed, Hart, Rom};
 
 /// The loop head was not reached within the limit.
@@ -56,12 +56,12 @@ fn tick<const ROM: u32, const RAM: u32>(hart: &mut Hart<ROM, RAM>, rom: &Rom<ROM
 /// Ticks to the loop head for the first time, and says how many ticks that took: no more than the anchor bound, whatever
 /// the hart holds and the feed gives.
 pub fn anchor<const ROM: u32, const RAM: u32>(
-    program: &Plain,
+    checked: &Checked,
     built: &Built<ROM, RAM>,
     hart: &mut Hart<ROM, RAM>,
     feed: &mut Feed,
 ) -> u64
-    requires { Stabilizes RAM program.now built.now }
+    requires { IsStable ROM RAM checked.now built.now }
     ensures head { IsFirstHead built.now.rom feed.old.left hart.old result }
     ensures within { result ≤ built.now.needs.anchor }
     ensures runs { RunsTo built.now.rom result feed.old feed.new hart.old hart.new }
@@ -76,14 +76,14 @@ pub fn anchor<const ROM: u32, const RAM: u32>(
 /// Ticks from the loop head to the loop head, one round, and says how many ticks that took: no more than the round bound.
 /// The round makes one step of the program on the state that RAM holds.
 pub fn round<const ROM: u32, const RAM: u32>(
-    program: &Plain,
+    checked: &Checked,
     built: &Built<ROM, RAM>,
     hart: &mut Hart<ROM, RAM>,
     feed: &mut Feed,
 ) -> u64
-    requires stabilizes { Stabilizes RAM program.now built.now }
+    requires stabilizes { IsStable ROM RAM checked.now built.now }
     requires head { hart.old.pc ≡ 0 }
-    ensures round { Round program.now built.now feed.old.left hart.old result hart.new }
+    ensures round { Round checked.now built.now feed.old.left hart.old result hart.new }
     ensures within { result ≤ built.now.needs.round }
     ensures runs { RunsTo built.now.rom result feed.old feed.new hart.old hart.new }
 {

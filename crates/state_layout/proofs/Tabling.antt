@@ -1,5 +1,5 @@
 -- What a map keeps is made function by function.
-use Rattle.std.proofs.Common.{◌≡◌, ℕ, suc, ◌+◌, ◌-◌, ◌<◌, ◌≤◌, ◌^◌, ℤ, Bool, true, false, List, [], ◌∷◌, ◌++◌, map, length, take, get_or, Some, refl, sym, ap, ◌∙◌, subst, inl, inr, append_assoc, append-nil, length-append, arith}
+use Rattle.std.proofs.Common.{◌≡◌, ℕ, suc, ◌+◌, ◌-◌, ◌<◌, ◌≤◌, ◌^◌, ◌%◌, ℤ, Bool, true, false, List, [], ◌∷◌, ◌++◌, map, length, take, get_or, Some, refl, sym, ap, ◌∙◌, subst, inl, inr, append_assoc, append-nil, length-append, arith}
 use Rattle.std.specs.Prelude.{if◌then◌else◌, slice_get, unwrap_or}
 use Rattle.std.proofs.lemmas.Bool.{cases_eq}
 use Rattle.std.proofs.lemmas.List.{get_or_append_left, get_or-append_right, length-map, length-take-le, map-append, take_more}
@@ -9,14 +9,14 @@ use Rattle.asm_tree.specs.declared.decl.Kind.{Kind}
 use Rattle.state_space.specs.declared.signature.Range.{Range}
 use Rattle.state_space.specs.declared.signature.Signature.{Signature}
 use Rattle.state_space.specs.Arrays.{padded_number}
-use Rattle.state_space.specs.Locations.{Location, is_input, is_state, located, tuples}
+use Rattle.state_space.specs.Locations.{Location, is_input, is_state, is_static, located, tuples}
 use Rattle.state_space.specs.Sizes.{fits, most, padded_own, padded_sum}
 use Rattle.state_space.proofs.Padding.{read_at}
 use Rattle.state_space.proofs.Small.{room}
 use Rattle.state_space.proofs.Widening.{few_from}
 use Rattle.state_layout.specs.declared.cell.Cell.{Cell}
 use Rattle.state_layout.specs.declared.ends.Ends.{Ends}
-use Rattle.state_layout.specs.Map.{IsCell, Placement, args_of, array_behind, cell_of, cells, padded_index}
+use Rattle.state_layout.specs.Map.{IsCell, Placement, args_of, array_behind, cell_of, cells, padded_before, padded_index}
 use Rattle.state_layout.specs.Tables.{AreLow, cell_in, ends_at, ends_behind, no_ends}
 use Rattle.state_layout.proofs.Arrays.{end-all, end-bound, first-all}
 
@@ -84,6 +84,8 @@ ends-more placement i d within =
     let values = fold_more (array_behind placement.layout) 0 placement.signatures i d within in
     let flags = sum_by_more (padded_own is_state) placement.signatures i d within in
     let kept = sum_by_more (padded_own is_input) placement.signatures i d within in
+    let more = sum_by_more (padded_own is_static) placement.signatures i d within in
+    let tables : padded_before is_static placement (i + 1) % 2 ^ 32 ≡ (padded_before is_static placement i % 2 ^ 32 + padded_own is_static (get_or placement.signatures i d)) % 2 ^ 32 = omega arith in
     cc
 
 pub ends-low : (placement : Placement) (fun : ℕ) → fits placement.signatures ≡ true → AreLow (ends_at placement fun)

@@ -1,9 +1,9 @@
 -- What a map keeps, so that each place is found in constant time.
-use Rattle.std.specs.Prelude.{◌≡◌, ℕ, ◌+◌, ◌≤◌, ◌^◌, ℤ, true, List, take, length, slice_index_or}
+use Rattle.std.specs.Prelude.{◌≡◌, ℕ, ◌+◌, ◌%◌, ◌≤◌, ◌^◌, ℤ, true, List, take, length, slice_index_or}
 use Rattle.std.specs.List.{AllByRecursion}
 use Rattle.state_space.specs.declared.signature.Range.{Range}
 use Rattle.state_space.specs.declared.signature.Signature.{Signature}
-use Rattle.state_space.specs.Locations.{is_input, is_state}
+use Rattle.state_space.specs.Locations.{is_input, is_state, is_static}
 use Rattle.state_space.specs.Sizes.{IsSized, fits, padded_own}
 use Rattle.state_layout.specs.declared.cell.Cell.{Cell}
 use Rattle.state_layout.specs.declared.ends.Ends.{Ends}
@@ -16,6 +16,7 @@ ends_behind layout ends signature = record {
   values = array_behind layout ends.values signature;
   flags = ends.flags + padded_own is_state signature;
   kept = ends.kept + padded_own is_input signature;
+  tables = (ends.tables + padded_own is_static signature) % 2 ^ 32;
 }
 
 -- where the arrays of the functions before the one with this number end
@@ -24,12 +25,13 @@ ends_at placement fun = record {
   values = arrays_end placement.layout (take fun placement.signatures);
   flags = padded_before is_state placement fun;
   kept = padded_before is_input placement fun;
+  tables = padded_before is_static placement fun % 2 ^ 32;
 }
 
 abbrev pub no_ends : Ends
-no_ends = record { values = 0; flags = 0; kept = 0 }
+no_ends = record { values = 0; flags = 0; kept = 0; tables = 0 }
 
--- each number is small
+-- each number of RAM is small
 pub record AreLow (ends : Ends) : Type 0 where
   pub values : ends.values ≤ 2 ^ 22
   pub flags : ends.flags ≤ 2 ^ 19

@@ -22,6 +22,8 @@ pub struct Ends {
     pub flags: u32,
     /// How many kept words they have.
     pub kept: u32,
+    /// How many words their tables have in ROM, modulo 2^32.
+    pub tables: u32,
 }
 
 /// The next multiple of the width from an offset on.
@@ -57,7 +59,7 @@ impl Ends {
             Ends {
                 values: raised(access, self.values) + access.bytes() * padded,
                 flags: self.flags + padded,
-                kept: self.kept,
+                ..self
             }
         } else if Side::Input.holds(signature.kind) {
             Ends {
@@ -65,7 +67,11 @@ impl Ends {
                 ..self
             }
         } else {
-            self
+            let padded = padded_args(signature.args.as_slice()) % (1 << 32);
+            Ends {
+                tables: self.tables.wrapping_add(padded as u32),
+                ..self
+            }
         }
     }
 }
@@ -85,6 +91,7 @@ pub fn ends_of(
         values: 0,
         flags: 0,
         kept: 0,
+        tables: 0,
     };
     ends.push(end)?;
     for signature in signatures {

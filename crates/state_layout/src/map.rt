@@ -1,7 +1,7 @@
 //! The map of RAM.
 
-ghost use Rattle.std.specs.Prelude.{◌≡◌, ◌≤◌, ◌<◌, ◌^◌, Some, length, slice_get, IfOk};
-ghost use Rattle.state_space.specs.Locations.{input_locations, is_input, is_state, state_locations};
+ghost use Rattle.std.specs.Prelude.{◌≡◌, ◌≤◌, ◌<◌, ◌%◌, ◌^◌, Some, length, slice_get, IfOk};
+ghost use Rattle.state_space.specs.Locations.{input_locations, is_input, is_state, is_static, state_locations};
 ghost use Rattle.state_space.specs.Sizes.{IsRange};
 ghost use Rattle.state_layout.specs.Map as spec;
 ghost use Rattle.state_layout.specs.Map.{IsCell};
@@ -171,6 +171,14 @@ impl Map {
         ensures low { result < 2 ^ 26 }
     {
         self.flags_end() + 4 * self.ends_at(fun).kept
+    }
+
+    /// How many words of ROM the tables of the functions before one have, modulo 2^32.
+    pub fn tables_before(&self, fun: usize) -> u32
+        requires { fun < length self.now.signatures }
+        ensures { result ≡ spec.padded_before is_static self.now fun % 2 ^ 32 }
+    {
+        self.ends_at(fun).tables
     }
 
     /// The word that marks that a location was given two values.

@@ -1,9 +1,9 @@
 use Rattle.std.proofs.Common.{subst}
-use Rattle.block_laws.specs.Law.{LawOfEntry, LawOfNest, LawOfNoReturn, LawOfStart}
+use Rattle.block_code.specs.Law.{LawOfEntry, LawOfNest, LawOfNoReturn, LawOfStart}
 use Rattle.block_code.specs.Tree.{plan_of}
-use Rattle.block_laws.proofs.Structure.{law-of-entry, law-of-no-return}
-use Rattle.block_laws.proofs.Nest.{law-of-nest}
-use Rattle.block_laws.proofs.Starts.{law-of-start}
+use Rattle.block_code.proofs.Structure.{law-of-entry, law-of-no-return}
+use Rattle.block_code.proofs.Nest.{law-of-nest}
+use Rattle.block_code.proofs.Starts.{law-of-start}
 use Rattle.block_code.proofs.block.entry.Goals as goal
 
 pub returns-clause-law : goal.returns-clause-law

@@ -1,7 +1,7 @@
 use Rattle.std.proofs.Common.{subst}
-use Rattle.block_laws.specs.Law.{LawOfEffect, LawOfTop}
+use Rattle.block_code.specs.Law.{LawOfEffect, LawOfTop}
 use Rattle.block_code.specs.Tree.{plan_of}
-use Rattle.block_laws.proofs.Structure.{law-of-effect, law-of-top}
+use Rattle.block_code.proofs.Structure.{law-of-effect, law-of-top}
 use Rattle.block_code.proofs.block.full.Goals as goal
 
 pub returns-clause-law : goal.returns-clause-law

@@ -1,6 +1,6 @@
 use Rattle.std.proofs.Common.{◌+◌, ◌++◌, [], ◌∷◌, refl, sym, ◌∙◌, append_assoc}
 use Rattle.block_code.specs.Tree.{plan_of}
-use Rattle.block_laws.specs.Plan as plan
+use Rattle.block_code.specs.Plan as plan
 use Rattle.block_code.proofs.Growth.{emitted-last, grown-then, refused-next}
 use Rattle.block_code.proofs.emission.+emit_behind.Goals as goal
 

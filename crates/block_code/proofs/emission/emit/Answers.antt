@@ -3,8 +3,8 @@ use Rattle.block_code.specs.Emit.{HasGrown}
 use Rattle.block_code.specs.Tree.{plan_of}
 use Rattle.block_code.proofs.Growth.{grown-length, on-ok-map}
 use Rattle.block_code.proofs.emission.emit.Goals as goal
-use Rattle.block_laws.specs.Plan as plan
-use Rattle.block_laws.proofs.Place.{length-code}
+use Rattle.block_code.specs.Plan as plan
+use Rattle.block_code.proofs.Place.{length-code}
 
 pub returns-clause-len : goal.returns-clause-len
 returns-clause-len c =

@@ -3,8 +3,8 @@ use Rattle.std.proofs.lemmas.List.{length-replicate}
 use Rattle.rv_isa.specs.declared.instr.Instr.TheVariants.{Addi}
 use Rattle.block_code.specs.Tree.{plan_of}
 use Rattle.block_code.specs.declared.tree.Tree.{Line}
-use Rattle.block_laws.specs.Block.{Keeps, Spares}
-use Rattle.block_laws.specs.Plan.{AreStoreless, IsLine}
+use Rattle.block_code.specs.Block.{Keeps, Spares}
+use Rattle.block_code.specs.Plan.{AreStoreless, IsLine}
 use Rattle.loop_code.proofs.tests.adds.Goals as goal
 
 line : (n r : ℕ) (z : ℤ) → IsLine (replicate n (Addi r r z))

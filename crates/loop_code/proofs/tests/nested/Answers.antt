@@ -1,6 +1,6 @@
 use Rattle.std.proofs.Common.{rules, subst, sym}
 use Rattle.block_code.specs.Tree.{plan_of}
-use Rattle.block_laws.specs.Block.{IsBlock, Spares}
+use Rattle.block_code.specs.Block.{IsBlock, Spares}
 use Rattle.loop_code.proofs.tests.nested.Goals as goal
 
 pub counted-requires-2-clause-kept : goal.counted-requires-2-clause-kept

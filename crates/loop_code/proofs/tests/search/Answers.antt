@@ -2,7 +2,7 @@ use Rattle.std.proofs.Common.{◌≡◌, [], ◌∷◌, ◌++◌, ap, ◌∙◌,
 use Rattle.rv_isa.specs.declared.instr.Instr.TheVariants.{Lui, Lw, Sltiu, Xor}
 use Rattle.block_code.specs.Tree.{plan_of}
 use Rattle.block_code.specs.declared.tree.Tree.{Line}
-use Rattle.block_laws.specs.Block.{Keeps}
+use Rattle.block_code.specs.Block.{Keeps}
 use Rattle.loop_code.proofs.tests.search.Goals as goal
 
 pub scan-requires-clause-kept : goal.scan-requires-clause-kept

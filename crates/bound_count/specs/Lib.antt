@@ -1,0 +1,11 @@
+pub mod Amounts
+pub mod Counts
+pub mod Ends
+pub mod Groups
+pub mod Laws
+pub mod Numbers
+pub mod Refusals
+pub mod RuleNeeds
+pub mod RuleWeights
+pub mod ShortNumbers
+pub mod TermWeights

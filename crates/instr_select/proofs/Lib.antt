@@ -1,0 +1,27 @@
+-- Lemmas on code for terms.
+pub mod Arithmetic
+pub mod Bits
+pub mod Blocks
+pub mod Bounded
+pub mod Loops
+pub mod Entered
+pub mod Fits
+pub mod HeldValues
+pub mod Index
+pub mod Instructions
+pub mod Levels
+pub mod Mapped
+pub mod Masks
+pub mod Operators
+pub mod ReadValues
+pub mod ReadLines
+pub mod Registers
+pub mod Selects
+pub mod ShortValues
+pub mod Silences
+pub mod Sizes
+pub mod SilentLines
+pub mod TableLines
+pub mod TermCode
+pub mod Values
+pub mod Written

@@ -1,0 +1,15 @@
+pub mod BinderKinds
+pub mod Binding
+pub mod Expansions
+pub mod FlatLevels
+pub mod Guards
+pub mod InstanceNumbers
+pub mod InstanceSums
+pub mod PlacedFlats
+pub mod RuleDefined
+pub mod RuleNew
+pub mod RuleSums
+pub mod RuleUpdates
+pub mod RuleWeights
+pub mod TermLevels
+pub mod Written
