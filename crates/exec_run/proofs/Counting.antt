@@ -1,11 +1,16 @@
 -- What was written and counted, and what is left to see, an event further.
 use Rattle.std.proofs.Common.{◌≡◌, ℕ, suc, ◌+◌, ◌-◌, ◌<◌, ◌≤◌, drop, true, false, Some, None, List, ◌∷◌, ◌++◌, length, sym, ap, ◌∙◌, subst, append_assoc, refl, arith}
 use Rattle.rv_machine.specs.Hart.{HartState}
-use Rattle.rv_machine.specs.Run.{after, events, left_by, offered, ports_taken}
+use Rattle.rv_machine.specs.Run.{left_by, offered, ports_taken}
 use Rattle.rv_machine.specs.Shown.{shown}
 use Rattle.rv_machine.specs.Tick.{Event, Quiet, Took, Sent, Trapped, tick}
+use Rattle.fault_script.specs.Standings.{Standing, reached, ticked}
+use Rattle.fault_script.specs.declared.event.Event.TheVariants.{Tick}
+use Rattle.fault_script.specs.declared.event.Timed.{Timed}
 use Rattle.rv_machine.specs.declared.machine.Ticked.{Ticked}
-use Rattle.exec_run.specs.ExecText.{send_line, send_lines, traps}
+use Rattle.exec_run.specs.ExecText.{due, end_of, later, run_events, send_line, send_lines, shown_by, start_of, traps}
+use Rattle.exec_run.specs.Striking.{struck_all}
+use Rattle.exec_run.proofs.Striking.{AreStruck, StruckBy, struck}
 use Rattle.text_core.specs.WrittenLines.{ended, lines_text}
 
 -- after so many ticks, with the events that are left and what was counted, the text behind `before` is that of those ticks
@@ -65,51 +70,139 @@ quiet-event (Took port) ticked e took trap sent = absurd cc
 quiet-event (Sent port word) ticked e took trap sent = absurd cc
 quiet-event Trapped ticked e took trap sent = absurd cc
 
--- so many of the ticks are made, and the others go on from here
-pub record Running (rom : List ℕ) (ticks : ℕ) (readings : List ℕ) (start : HartState) (before : List ℕ) (made : ℕ) (out left : List ℕ) (m : HartState) (trapped took reading : ℕ) : Type 0 where
-  pub counted : Counted (events rom ticks readings start) before made out (events rom (ticks - made) left m) trapped took
-  pub hart : after rom (ticks - made) left m ≡ after rom ticks readings start
-  pub next_reading : reading ≡ offered left
+-- the ticks of a run of the script from the start, and what they show
+abbrev all_shown : List ℕ → ℕ → List Timed → List ℕ → HartState → List Event
+all_shown rom ticks script readings start = shown_by rom (run_events ticks 0 script) (start_of readings start)
 
--- one tick more
-module _ {rom : List ℕ} {ticks : ℕ} {readings : List ℕ} {start : HartState} {before : List ℕ} {made : ℕ} {out left : List ℕ} {m : HartState} {trapped took reading : ℕ}
-    (below : made < ticks) (r : Running rom ticks readings start before made out left m trapped took reading)
-    (m' : HartState) (ticked : Ticked) (moved : m' ≡ (tick rom reading m).hart) (shows : ticked ≡ shown (tick rom reading m).event) where
-  abbrev others : Event → List Event
-  others event = events rom (ticks - (made + 1)) (left_by event left) m'
+-- so many of the ticks are made, and the others go on from here, with these faults
+pub record Running (size : ℕ) (rom : List ℕ) (ticks : ℕ) (script : List Timed) (readings : List ℕ) (start : HartState) (before : List ℕ) (made : ℕ) (out : List ℕ) (faults : List Timed) (left : List ℕ) (m : HartState) (trapped took reading : ℕ) : Type 0 where
+  pub standing : Standing
+  pub here : standing.hart ≡ m
+  pub unread : standing.feed.left ≡ left
+  pub counted : Counted (all_shown rom ticks script readings start) before made out (shown_by rom (run_events (ticks - made) made faults) standing) trapped took
+  pub end : (reached rom (run_events (ticks - made) made faults) standing).hart ≡ end_of rom ticks script readings start
+  pub next_reading : reading ≡ offered left
+  pub are_faults : AreStruck size faults
+
+-- no tick is made yet
+pub none-made : (size : ℕ) (rom : List ℕ) (ticks : ℕ) (script : List Timed) (readings : List ℕ) (start : HartState) (before : List ℕ) (reading : ℕ) → reading ≡ offered readings → AreStruck size script
+    → Running size rom ticks script readings start before 0 before script readings start 0 0 reading
+none-made size rom ticks script readings start before reading gives are =
+    let all : ticks ≡ ticks - 0 = omega arith in
+    record {
+      standing = start_of readings start;
+      here = refl;
+      unread = refl;
+      counted = subst (λ n. Counted (all_shown rom ticks script readings start) before 0 before (shown_by rom (run_events n 0 script) (start_of readings start)) 0 0) all
+          (record { lines = refl; traps = omega arith; taken = omega arith; few_traps = omega arith; few_taken = omega arith });
+      end = ap (λ n. (reached rom (run_events n 0 script) (start_of readings start)).hart) (sym all);
+      next_reading = gives;
+      are_faults = are;
+    }
+
+-- one tick more, behind the faults that are due
+module _ {size : ℕ} {rom : List ℕ} {ticks : ℕ} {script : List Timed} {readings : List ℕ} {start : HartState} {before : List ℕ} {made : ℕ} {out : List ℕ} {faults : List Timed} {left : List ℕ} {m : HartState} {trapped took reading : ℕ}
+    (below : made < ticks) (r : Running size rom ticks script readings start before made out faults left m trapped took reading)
+    (faults' : List Timed) (behind : faults' ≡ later made faults) (are : AreStruck size faults')
+    (hit m' : HartState) (stricken : hit ≡ struck_all (due made faults) m)
+    (ticked_as : Ticked) (moved : m' ≡ (tick rom reading hit).hart) (shows : ticked_as ≡ shown (tick rom reading hit).event) where
+  abbrev after_faults : StruckBy rom (due made faults) r.standing
+  after_faults = struck size rom made faults r.standing r.are_faults
+
+  abbrev next : Standing
+  next = ticked rom after_faults.standing
+
+  abbrev others : List Event
+  others = shown_by rom (run_events (ticks - (made + 1)) (made + 1) faults') next
 
   one_less : ticks - made ≡ suc (ticks - (made + 1))
   one_less = omega arith
 
-  seen : (event : Event) → (tick rom reading m).event ≡ event
-      → Counted (events rom ticks readings start) before made out (event ∷ others event) trapped took × (after rom (ticks - (made + 1)) (left_by event left) m' ≡ after rom ticks readings start)
-  seen event e =
-      let next = r.next_reading in
-      let first : events rom (ticks - made) left m ≡ event ∷ others event =
-      ap (λ n. events rom n left m) one_less ∙ cc in
-      let more : after rom (ticks - made) left m ≡ after rom (ticks - (made + 1)) (left_by event left) m' =
-      ap (λ n. after rom n left m) one_less ∙ cc in
-      (subst (λ es. Counted (events rom ticks readings start) before made out es trapped took) first r.counted, sym more ∙ r.hart)
+  hit-is : after_faults.standing.hart ≡ hit
+  hit-is = after_faults.hart ∙ ap (struck_all (due made faults)) r.here ∙ sym stricken
 
-  pub running-took : ticked.took ≡ true → (left' : List ℕ) (reading' : ℕ) → left' ≡ drop 1 left → reading' ≡ offered left'
-      → Running rom ticks readings start before (made + 1) out left' m' trapped (took + 1) reading'
+  read-is : offered after_faults.standing.feed.left ≡ reading
+  read-is = ap offered (ap (λ f. f.left) after_faults.feed ∙ r.unread) ∙ sym r.next_reading
+
+  tick-is : tick rom (offered after_faults.standing.feed.left) after_faults.standing.hart ≡ tick rom reading hit
+  tick-is = ap (λ n. tick rom n after_faults.standing.hart) read-is ∙ ap (tick rom reading) hit-is
+
+  shown-is : shown_by rom (run_events (ticks - made) made faults) r.standing ≡ (tick rom reading hit).event ∷ others
+  shown-is =
+      ap (λ n. shown_by rom (run_events n made faults) r.standing) one_less
+      ∙ after_faults.shows (Tick ∷ run_events (ticks - (made + 1)) (made + 1) (later made faults))
+      ∙ ap (λ fs. (tick rom (offered after_faults.standing.feed.left) after_faults.standing.hart).event ∷ shown_by rom (run_events (ticks - (made + 1)) (made + 1) fs) next) (sym behind)
+      ∙ ap (λ t. t.event ∷ others) tick-is
+
+  end-is : (reached rom (run_events (ticks - (made + 1)) (made + 1) faults') next).hart ≡ end_of rom ticks script readings start
+  end-is =
+      ap (λ fs. (reached rom (run_events (ticks - (made + 1)) (made + 1) fs) next).hart) behind
+      ∙ sym (ap (λ (s : Standing). s.hart) (after_faults.reaches (Tick ∷ run_events (ticks - (made + 1)) (made + 1) (later made faults))))
+      ∙ sym (ap (λ n. (reached rom (run_events n made faults) r.standing).hart) one_less) ∙ r.end
+
+  here-is : next.hart ≡ m'
+  here-is = ap (λ t. t.hart) tick-is ∙ sym moved
+
+  unread-is : (event : Event) → (tick rom reading hit).event ≡ event → next.feed.left ≡ left_by event left
+  unread-is event e =
+      ap (λ t. left_by t.event after_faults.standing.feed.left) tick-is ∙ ap (λ f. left_by (tick rom reading hit).event f) (ap (λ f. f.left) after_faults.feed ∙ r.unread)
+      ∙ ap (λ x. left_by x left) e
+
+  seen : (event : Event) → (tick rom reading hit).event ≡ event
+      → Counted (all_shown rom ticks script readings start) before made out (event ∷ others) trapped took
+  seen event e = subst (λ es. Counted (all_shown rom ticks script readings start) before made out es trapped took) (shown-is ∙ ap (λ x. x ∷ others) e) r.counted
+
+  pub running-took : ticked_as.took ≡ true → (left' : List ℕ) (reading' : ℕ) → left' ≡ drop 1 left → reading' ≡ offered left'
+      → Running size rom ticks script readings start before (made + 1) out faults' left' m' trapped (took + 1) reading'
   running-took t left' reading' e gives =
-      let was = took-event _ ticked shows t in
-      let s = seen (Took was.0) was.1 in
-      rw e (record { counted = counted-took _ _ _ _ _ _ _ was.0 s.0; hart = s.1; next_reading = rw e at gives })
+      let was = took-event _ ticked_as shows t in
+      record {
+        standing = next;
+        here = here-is;
+        unread = unread-is (Took was.0) was.1 ∙ sym e;
+        counted = counted-took _ _ _ _ _ _ _ was.0 (seen (Took was.0) was.1);
+        end = end-is;
+        next_reading = gives;
+        are_faults = are;
+      }
 
-  pub running-trapped : ticked.trapped ≡ true → Running rom ticks readings start before (made + 1) out left m' (trapped + 1) took reading
+  pub running-trapped : ticked_as.trapped ≡ true → Running size rom ticks script readings start before (made + 1) out faults' left m' (trapped + 1) took reading
   running-trapped t =
-      let s = seen Trapped (trapped-event _ ticked shows t) in
-      record { counted = counted-trapped _ _ _ _ _ _ _ s.0; hart = s.1; next_reading = r.next_reading }
+      let was = trapped-event _ ticked_as shows t in
+      record {
+        standing = next;
+        here = here-is;
+        unread = unread-is Trapped was;
+        counted = counted-trapped _ _ _ _ _ _ _ (seen Trapped was);
+        end = end-is;
+        next_reading = r.next_reading;
+        are_faults = are;
+      }
 
-  pub running-sent : (port word : ℕ) → ticked.sent ≡ Some (record { 0 = port; 1 = word })
-      → Running rom ticks readings start before (made + 1) (out ++ ended (send_line (made + 1) port word)) left m' trapped took reading
+  pub running-sent : (port word : ℕ) → ticked_as.sent ≡ Some (record { 0 = port; 1 = word })
+      → Running size rom ticks script readings start before (made + 1) (out ++ ended (send_line (made + 1) port word)) faults' left m' trapped took reading
   running-sent port word t =
-      let s = seen (Sent port word) (sent-event _ ticked port word shows t) in
-      record { counted = counted-sent _ _ _ _ _ _ _ port word s.0; hart = s.1; next_reading = r.next_reading }
+      let was = sent-event _ ticked_as port word shows t in
+      record {
+        standing = next;
+        here = here-is;
+        unread = unread-is (Sent port word) was;
+        counted = counted-sent _ _ _ _ _ _ _ port word (seen (Sent port word) was);
+        end = end-is;
+        next_reading = r.next_reading;
+        are_faults = are;
+      }
 
-  pub running-quiet : ticked.took ≡ false → ticked.trapped ≡ false → ticked.sent ≡ None → Running rom ticks readings start before (made + 1) out left m' trapped took reading
+  pub running-quiet : ticked_as.took ≡ false → ticked_as.trapped ≡ false → ticked_as.sent ≡ None
+      → Running size rom ticks script readings start before (made + 1) out faults' left m' trapped took reading
   running-quiet a b t =
-      let s = seen Quiet (quiet-event _ ticked shows a b t) in
-      record { counted = counted-quiet _ _ _ _ _ _ _ s.0; hart = s.1; next_reading = r.next_reading }
+      let was = quiet-event _ ticked_as shows a b t in
+      record {
+        standing = next;
+        here = here-is;
+        unread = unread-is Quiet was;
+        counted = counted-quiet _ _ _ _ _ _ _ (seen Quiet was);
+        end = end-is;
+        next_reading = r.next_reading;
+        are_faults = are;
+      }

@@ -1,2 +1,3 @@
 pub mod Counting
 pub mod Changes
+pub mod Striking

@@ -5,8 +5,12 @@ use Rattle.text_core.specs.Hexadecimal.{hex8}
 use Rattle.trap_model.specs.Map.{ram_base}
 use Rattle.rv_machine.specs.Hart.{HartState}
 use Rattle.rv_machine.specs.Memory.{number_at}
-use Rattle.rv_machine.specs.Run.{after, events, ports_taken}
-use Rattle.rv_machine.specs.Tick.{Event, Quiet, Took, Sent, Trapped}
+use Rattle.rv_machine.specs.Run.{offered, ports_taken}
+use Rattle.rv_machine.specs.Tick.{Event as Shown, Quiet, Took, Sent, Trapped, tick}
+use Rattle.fault_script.specs.Standings.{Standing, faulted, reached, started, ticked}
+use Rattle.fault_script.specs.declared.event.Event.{Event}
+use Rattle.fault_script.specs.declared.event.Event.TheVariants.{Tick}
+use Rattle.fault_script.specs.declared.event.Timed.{Timed}
 use Rattle.text_core.specs.WrittenLines.{◌␣◌, lines_text}
 
 -- the line of a word that was sent: the number of the tick, the port and the word
@@ -14,7 +18,7 @@ unfoldable pub send_line : ℕ → ℕ → ℕ → List ℕ
 send_line tick port word = codes "send" ␣ decimal tick ␣ decimal port ␣ hex8 word
 
 -- the lines of the words that were sent, with the number of the first of these ticks
-abbrev pub send_lines : ℕ → List Event → List (List ℕ)
+abbrev pub send_lines : ℕ → List Shown → List (List ℕ)
 send_lines tick [] = []
 send_lines tick (Quiet ∷ es) = send_lines (tick + 1) es
 send_lines tick (Took port ∷ es) = send_lines (tick + 1) es
@@ -22,7 +26,7 @@ send_lines tick (Sent port word ∷ es) = send_line tick port word ∷ send_line
 send_lines tick (Trapped ∷ es) = send_lines (tick + 1) es
 
 -- how many ticks trapped
-abbrev pub traps : List Event → ℕ
+abbrev pub traps : List Shown → ℕ
 traps [] = 0
 traps (Quiet ∷ es) = traps es
 traps (Took port ∷ es) = traps es
@@ -60,16 +64,45 @@ ram_lines (suc count) number start end =
     else ram_line (4 * number) (number_at 4 (4 * number) end) ∷ ram_lines count (number + 1) start end
 
 -- the lines of a run of so many ticks that saw these events and took the hart from start to end
-abbrev pub run_lines : ℕ → List Event → HartState → HartState → List (List ℕ)
+abbrev pub run_lines : ℕ → List Shown → HartState → HartState → List (List ℕ)
 run_lines ticks seen start end =
     send_lines 1 seen
     ++ (summary_line ticks (traps seen) (length (ports_taken seen))
     ∷ (pc_line end.pc ∷ (register_lines 0 end.regs ++ ram_lines (length end.ram / 4) 0 start.ram end.ram)))
 
--- the lines of the run of a ROM from this hart on, with these readings, without their line feeds
-abbrev pub exec_lines : List ℕ → ℕ → List ℕ → HartState → List (List ℕ)
-exec_lines rom ticks readings start = run_lines ticks (events rom ticks readings start) start (after rom ticks readings start)
+-- the faults of a time that are next, and those behind them
+abbrev pub due : ℕ → List Timed → List Event
+due time [] = []
+due time (fault ∷ faults) = if fault.time == time then fault.event ∷ due time faults else []
+
+abbrev pub later : ℕ → List Timed → List Timed
+later time [] = []
+later time (fault ∷ faults) = if fault.time == time then later time faults else fault ∷ faults
+
+-- What happens in so many ticks from this time on: at each time its faults in order, and then the next tick. Faults that are due at the end, or later, don't come about.
+abbrev pub run_events : ℕ → ℕ → List Timed → List Event
+run_events zero time faults = []
+run_events (suc ticks) time faults = due time faults ++ Tick ∷ run_events ticks (time + 1) (later time faults)
+
+-- what the ticks among these events show
+abbrev pub shown_by : List ℕ → List Event → Standing → List Shown
+shown_by rom [] s = []
+shown_by rom (Tick ∷ events) s = (tick rom (offered s.feed.left) s.hart).event ∷ shown_by rom events (ticked rom s)
+shown_by rom (fault ∷ events) s = shown_by rom events (faulted fault s)
+
+-- the start of a run, with readings of which none is taken
+abbrev pub start_of : List ℕ → HartState → Standing
+start_of readings m = started m (record { left = readings; used = 0 })
+
+-- the hart at the end of a run
+abbrev pub end_of : List ℕ → ℕ → List Timed → List ℕ → HartState → HartState
+end_of rom ticks script readings m = (reached rom (run_events ticks 0 script) (start_of readings m)).hart
+
+-- the lines of the run of a ROM from this hart on, with these faults and readings, without their line feeds
+abbrev pub exec_lines : List ℕ → ℕ → List Timed → List ℕ → HartState → List (List ℕ)
+exec_lines rom ticks script readings m =
+    run_lines ticks (shown_by rom (run_events ticks 0 script) (start_of readings m)) m (end_of rom ticks script readings m)
 
 -- the text of a run: each line is ended by a line feed
-unfoldable pub exec_text : List ℕ → ℕ → List ℕ → HartState → List ℕ
-exec_text rom ticks readings start = lines_text (exec_lines rom ticks readings start)
+unfoldable pub exec_text : List ℕ → ℕ → List Timed → List ℕ → HartState → List ℕ
+exec_text rom ticks script readings m = lines_text (exec_lines rom ticks script readings m)

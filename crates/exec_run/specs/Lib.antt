@@ -1,1 +1,2 @@
 pub mod ExecText
+pub mod Striking

@@ -28,7 +28,7 @@ fn text(
     for reading in readings {
         words.push(*reading)?;
     }
-    Ok(exec_text(rt.alloc(), &rom, hart, words, ticks)?)
+    Ok(exec_text(rt.alloc(), &rom, hart, words, &[], ticks)?)
 }
 
 /// The image, the first program counter, the readings, the ticks and the text. Registers and RAM are 0

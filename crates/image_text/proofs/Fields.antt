@@ -13,7 +13,7 @@ use Rattle.asm_names.specs.declared.program.Fun.{Fun}
 use Rattle.asm_names.specs.declared.program.Resolved.{Resolved}
 use Rattle.state_space.specs.Locations.{Location}
 use Rattle.asm_ranges.specs.Values.{fun_of, no_fun}
-use Rattle.model_run.specs.StateText.{argument_texts, closing, domain_of, parted, value_text}
+use Rattle.fault_script.specs.StateText.{argument_texts, closing, domain_of, parted, value_text}
 use Rattle.image_text.specs.Report.{AreNamed, location_name}
 use Rattle.image_text.proofs.Parting.{above}
 

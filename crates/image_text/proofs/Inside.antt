@@ -21,7 +21,7 @@ use Rattle.asm_ranges.specs.Values.{fun_of, no_fun}
 use Rattle.state_layout.specs.declared.entry.Entry.{Entry}
 use Rattle.state_layout.specs.Map.{Placement, entries}
 use Rattle.state_layout.specs.MapLaw.{IsPlaced}
-use Rattle.model_run.specs.StateText.{location_text}
+use Rattle.fault_script.specs.StateText.{location_text}
 use Rattle.image_text.specs.Report.{entry_of, location_name}
 use Rattle.image_text.specs.ReportParts.{location_on}
 use Rattle.image_text.proofs.Bounds.{entry-here}

@@ -20,7 +20,7 @@ use Rattle.state_layout.specs.declared.layout.Layout.{Layout}
 use Rattle.state_layout.specs.declared.layout.Layout.TheVariants as layouts
 use Rattle.state_layout.specs.Map.{Placement, cell_of, entries, entry_at}
 use Rattle.state_layout.specs.MapLaw.{IsPlaced}
-use Rattle.model_run.specs.StateText.{location_text}
+use Rattle.fault_script.specs.StateText.{location_text}
 use Rattle.bound_count.specs.declared.numbers.Numbers.{Numbers}
 use Rattle.bound_count.specs.declared.shape.Shape.{Shape}
 use Rattle.bound_count.specs.declared.shape.Shape.TheVariants as shapes

@@ -12,7 +12,7 @@ ghost use Rattle.image_text.specs.Report.{address_of, in_line, located_line, num
 ghost use Rattle.image_text.specs.ReportParts.{location_on, own_locations};
 
 use asm_names::Resolved;
-use model_run::put_location;
+use fault_script::put_function_location;
 use state_layout::{Entry, Map};
 use state_space::{Range, Side, Signature, count};
 use std::alloc::AllocError;
@@ -124,7 +124,7 @@ fn put_function(
     let mut number = first;
     for tuple in 0..count(ranges) {
         room.clear();
-        put_location(room, program.domains.as_slice(), function, ranges, tuple)?;
+        put_function_location(room, program.domains.as_slice(), function, ranges, tuple)?;
         put_located(out, side, map, fun, number, room)?;
         number += 1;
     }

@@ -124,7 +124,8 @@ fn put_image(out: &mut Vec<u8>, words: &[u32]) -> Result<(), AllocError>
 /// The report of a program's image that was made in this shape and this layout for this revision of the memory map: the
 /// program's name, how the image was made, the bytes of RAM, words of ROM, ticks and registers that it needs, the place
 /// of each location of the state in RAM, the port of each input and output location, and the written words in hexadecimal,
-/// one a line. It takes time in proportion to the locations and words.
+/// one a line. The revision is written as it is given: that its machine has `ROM` and `RAM` bytes is the caller's, who has
+/// both from one place (`stab_cli::machine_sizes`). It takes time in proportion to the locations and words.
 ///
 /// # Errors
 ///

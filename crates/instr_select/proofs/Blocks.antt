@@ -1,15 +1,16 @@
 -- The blocks of a term and of an index.
-use Rattle.std.proofs.Common.{◌≡◌, ℕ, zero, suc, ◌+◌, ◌≤◌, Bool, false, List, map, Some, refl, sym, ◌∙◌, arith}
-use Rattle.std.{specs.{Prelude.{slice_get}}, proofs.lemmas.List.Folds.{list_all-map}}
+use Rattle.std.proofs.Common.{◌≡◌, ℕ, zero, suc, ◌+◌, ◌≤◌, ℤ, Bool, true, false, List, map, Option, Some, refl, sym, ap, ◌∙◌, subst, arith}
+use Rattle.std.{specs.{Prelude.{slice_get}, List.{list_all}, Option.{unwrap_or}}, proofs.lemmas.List.Folds.{list_all-map}}
 use Rattle.asm_names.specs.declared.{program.Resolved.{Resolved}, resolved_term.ResolvedTerm.{ResolvedTerm}}
 use Rattle.state_space.specs.{declared.signature.{Range.{Range}, Signature.{Signature}}, Sizes.{padded_count}}
-use Rattle.block_code.specs.{Block.{IsBlock, IsInRange}, Effect.{Holds}, Leads.{KeepsRegs}, Plan.{If, Line, Loop, Plan, Scan, Seq, entry, full, len}}
+use Rattle.block_code.specs.{Block.{IsBlock, IsInRange}, Effect.{Holds, reg_at}, Leads.{KeepsRegs}, Plan.{If, Line, Loop, Plan, Scan, Seq, entry, full, len}}
 use Rattle.block_code.specs.Silent.{IsSilent, IsStorelessPlan, Respects}
-use Rattle.block_code.proofs.Silent.{keeps-regs}
-use Rattle.state_layout.specs.Map.{Placement}
+use Rattle.block_code.proofs.{Leads.{leads-more}, Silent.{keeps-ram, keeps-regs}}
+use Rattle.asm_ranges.specs.Values.{value}
+use Rattle.state_layout.specs.Map.{Placement, decoded}
 use Rattle.bound_count.specs.TermWeights.{arguments_registers, term_registers, term_weight}
-use Rattle.instr_select.specs.{SelectLaw.{IsTermBlock}, Terms.{arguments_plan, binders_below, is_static, term_plan}, Writing.{AreWritable, IsReady, IsWritable, LeavesBelow, LeavesValue, index_weight}}
-use Rattle.instr_select.proofs.{Selects.{terms-are-blocks, terms-leave-values}, Silences.{indices-stay-inside, quiet-indices, terms-are-silent}, TermCode.{IsTermCode, indices-are-coded}}
+use Rattle.instr_select.specs.{SelectLaw.{IsTermBlock}, Short.{is_short}, Terms.{arguments_plan, binders_below, is_static, term_plan}, Writing.{AreWritable, IsReady, IsWritable, LeavesBelow, LeavesIndex, LeavesValue, index_weight}}
+use Rattle.instr_select.proofs.{Index.{placed, placed-number}, Mapped.{signature-narrow}, Selects.{few-padded, index-leaves, terms-are-blocks, terms-leave-values}, Silences.{indices-stay-inside, quiet-indices, terms-are-silent}, TermCode.{IsTermCode, indices-are-coded}}
 
 -- a block without loops has no longer way from inside than from its top
 pub entry-few : (tree : Plan) → IsStorelessPlan tree → entry tree ≤ full tree
@@ -79,3 +80,19 @@ pub index-below : (program : Resolved) (placement : Placement) (tables : ℕ) (a
     → LeavesBelow register (padded_count signature.args) (arguments_plan program placement tables signature.args args register)
 index-below program placement tables args register writable ready low fun signature here held rom size address s s' e d =
     indices-stay-inside rom size program placement tables fun signature args ready.mapped here held register address s s' low writable.registers e d
+
+pub leaves-index : (program : Resolved) (placement : Placement) (tables : ℕ) (args : List ResolvedTerm) (register : ℕ) → AreWritable program args 0 register → IsReady program placement → 5 ≤ register
+    → (fun : ℕ) (signature : Signature) → slice_get placement.signatures fun ≡ Some signature
+    → LeavesIndex program placement tables signature.args args register (arguments_plan program placement tables signature.args args register)
+leaves-index program placement tables args zero writable ready low fun signature here rom size address s inputs env scope given d k lies e = absurd (omega arith)
+leaves-index program placement tables args (suc q) writable ready low fun signature here rom size address s inputs env scope given d k lies e =
+    let tree : Plan = arguments_plan program placement tables signature.args args (suc q) in
+    let vs : List ℤ = map (value program (decoded placement s.hart.ram) inputs env) args in
+    leads-more rom size address tree s (λ m. reg_at (suc q) m ≡ placed signature.args vs) _
+    (index-leaves rom size e.machine program placement tables s.hart.ram inputs env scope ready.mapped given signature.args args (signature-narrow program placement ready.mapped fun signature here).0
+    (few-padded rom size e.machine program placement tables s.hart.ram inputs env scope ready.mapped given fun signature here signature.kind refl)
+    d (subst (λ signatures. list_all (is_short signatures scope) args ≡ true) (sym ready.mapped.signatures) k) lies q low writable.registers address s e refl)
+    (λ m does index. (
+      (keeps-ram tree (index-storeless program placement tables signature.args args (suc q) writable)).does rom size address s m e does,
+      index ∙ sym (ap (λ (o : Option ℕ). unwrap_or o 0) (placed-number signature.args vs lies)),
+    ))

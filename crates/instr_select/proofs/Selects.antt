@@ -25,7 +25,7 @@ use Rattle.instr_select.proofs.{Index.{AreNarrow, IsNarrow, placed}, Instruction
 
 module _ (rom : List ℕ) (size : ℕ) (machine : IsMachine rom size) (program : Resolved) (placement : Placement) (tables : ℕ) (ram : List ℕ) (inputs env : List ℤ) (scope : Scope)
     (mapped : IsMapped program placement) (held : IsHeld rom size program placement tables ram inputs env scope) where
-  few-padded : (fun : ℕ) (signature : Signature) → slice_get placement.signatures fun ≡ Some signature → (kind : Kind) → signature.kind ≡ kind → padded_count signature.args ≤ 524288
+  pub few-padded : (fun : ℕ) (signature : Signature) → slice_get placement.signatures fun ≡ Some signature → (kind : Kind) → signature.kind ≡ kind → padded_count signature.args ≤ 524288
   few-padded fun signature here kinds.Static k =
       let room = held.words.room in let small = machine.rom_small in few_from is_static placement.signatures fun signature (omega arith) here (ap is_static k)
   few-padded fun signature here kinds.Controlled k = few-held program placement mapped fun signature here (ap is_static k)

@@ -2,10 +2,10 @@
 use Rattle.std.specs.Prelude.{◌≡◌, ◌≤◌, ◌<◌, ℕ, ◌+◌, ◌^◌, ℤ, true, List, map}
 use Rattle.std.specs.List.{list_all}
 use Rattle.asm_names.specs.declared.{program.Resolved.{Resolved}, resolved_term.ResolvedTerm.{ResolvedTerm}}
-use Rattle.state_space.specs.Locations.{signatures_of}
-use Rattle.asm_ranges.specs.{Ranges.{Scope}, Values.{defined, value}}
+use Rattle.state_space.specs.{declared.signature.Range.{Range}, Locations.{signatures_of}}
+use Rattle.asm_ranges.specs.{Ranges.{Scope}, Values.{defined, lie_in, value}}
 use Rattle.block_code.specs.{Effect.{Does, reg_at}, Leads.{IsEntered, Leads}, Moment.{Moment}, Plan.{Plan}}
-use Rattle.state_layout.specs.Map.{Placement, decoded, map_end}
+use Rattle.state_layout.specs.Map.{Placement, decoded, map_end, padded_index}
 use Rattle.bound_count.specs.TermWeights.{arguments_registers, arguments_weight, term_registers, term_weight}
 use Rattle.instr_select.specs.{FitLaw.{short_numbers}, SelectLaw.{HasValue, IsHeld, IsMapped}, Short.{is_short}, Terms.{binders_below}}
 
@@ -37,6 +37,16 @@ LeavesValue program placement tables term register tree =
     (rom : List ℕ) (size address : ℕ) (s : Moment) (inputs env : List ℤ) (scope : Scope) → IsHeld rom size program placement tables s.hart.ram inputs env scope
     → defined program (decoded placement s.hart.ram) inputs env term ≡ true → is_short (signatures_of program) scope term ≡ true → IsEntered rom size address tree s
     → Leads rom size address tree (HasValue register (value program (decoded placement s.hart.ram) inputs env term) s) s
+
+-- entered where RAM and ROM hold what the arguments speak of, the code leads to where the register has the padded index of the arguments' values, and RAM is
+-- as it was, if each argument is defined there and lies in its domain, and its ranges are of 32 signed bits
+abbrev pub LeavesIndex : Resolved → Placement → (tables : ℕ) → List Range → List ResolvedTerm → (register : ℕ) → Plan → Type 0
+LeavesIndex program placement tables ranges args register tree =
+    (rom : List ℕ) (size address : ℕ) (s : Moment) (inputs env : List ℤ) (scope : Scope) → IsHeld rom size program placement tables s.hart.ram inputs env scope
+    → list_all (defined program (decoded placement s.hart.ram) inputs env) args ≡ true → list_all (is_short (signatures_of program) scope) args ≡ true
+    → lie_in ranges (map (value program (decoded placement s.hart.ram) inputs env) args) ≡ true → IsEntered rom size address tree s
+    → Leads rom size address tree
+    (λ s'. (s'.hart.ram ≡ s.hart.ram) × (reg_at register s' ≡ padded_index ranges (map (value program (decoded placement s.hart.ram) inputs env) args))) s
 
 -- from every valid hart, the code leaves in the register a number below this one
 abbrev pub LeavesBelow : (register bound : ℕ) → Plan → Type 0

@@ -11,7 +11,7 @@ ghost use Rattle.state_space.specs.Sizes.{IsRange, padded_count};
 ghost use Rattle.state_space.specs.declared.signature.Signature.{Signature};
 ghost use Rattle.bound_count.specs.TermWeights.{term_weight};
 ghost use Rattle.instr_select.specs.Terms as terms;
-ghost use Rattle.instr_select.specs.Writing.{AreWritable, IsReady, IsWritable, LeavesBelow, LeavesValue, index_weight};
+ghost use Rattle.instr_select.specs.Writing.{AreWritable, IsReady, IsWritable, LeavesBelow, LeavesIndex, LeavesValue, index_weight};
 
 use crate::trees::Selection;
 use asm_names::ResolvedTerm;
@@ -100,7 +100,7 @@ fn index_tree(
 }
 
 /// The block that leaves in a register the index of a location, that of a function at arguments, among the function's values
-/// in RAM. The index is below the function's padded size, whatever RAM holds. Registers from x5 below that one stay as they
+/// in RAM. The index is below the function's padded size, whatever RAM holds and the arguments are. Registers from x5 below that one stay as they
 /// were, and nothing is stored, read or sent. The tables of static functions begin at the address `tables`.
 ///
 /// # Errors
@@ -122,6 +122,8 @@ pub fn select_index(
     requires weight { index_weight args.now ≤ 262144 }
     ensures plan { IfOk result (λ block. (signature : Signature) → slice_get map.now.signatures fun ≡ Some signature
         → plan_of block ≡ terms.arguments_plan checked.now map.now tables signature.args args.now register) }
+    ensures value { IfOk result (λ block. (signature : Signature) → slice_get map.now.signatures fun ≡ Some signature
+        → LeavesIndex checked.now map.now tables signature.args args.now register (plan_of block)) }
     ensures inside { IfOk result (λ block. (signature : Signature) → slice_get map.now.signatures fun ≡ Some signature → terms.is_static signature.kind ≡ false
         → LeavesBelow register (padded_count signature.args) (plan_of block)) }
     ensures storeless { IfOk result (λ block. IsStorelessPlan (plan_of block)) }

@@ -1,70 +1,103 @@
--- The start of a bare hart, which the lines of the section `%run` describe.
-use Rattle.std.specs.Prelude.{◌≡◌, ℕ, Bool, true, false, is_none, List, [], ◌∷◌, ◌++◌, Option, Some, None, replicate, if◌then◌else◌, option_and_then}
+-- The start of a bare hart: a base, and what a job sets on it.
+use Rattle.std.specs.Prelude.{ℕ, zero, suc, ◌+◌, ◌*◌, ◌/◌, ◌%◌, ◌^◌, List, [], ◌∷◌, Option, Some, None, flat_map, replicate, slice_set, if◌then◌else◌}
+use Rattle.std.specs.Option.{unwrap_or}
+use Rattle.byteorder.specs.Endian.{little_bytes}
 use Rattle.rv_machine.specs.Hart.{HartState, with_reg}
-use Rattle.rv_machine.specs.Memory.{stored}
-use Rattle.job_text.specs.Sections.{is_passed}
-use Rattle.job_text.specs.Settings.{IsTicks, setting}
-use Rattle.job_text.specs.declared.setting.Setting.{Setting}
-use Rattle.job_text.specs.declared.setting.Setting.TheVariants.{Ticks, ProgramCounter, Register, Memory, Reading}
+use Rattle.job_text.specs.Keys.{runs_hart}
+use Rattle.job_text.specs.Told.{ToldState, ram_size}
+use Rattle.job_text.specs.declared.mode.Mode.{Mode}
+use Rattle.job_text.specs.declared.told.Base.{Base}
+use Rattle.job_text.specs.declared.told.Base.TheVariants.{Fill, Seed}
+use Rattle.job_text.specs.declared.told.Edit.{Edit}
+use Rattle.job_text.specs.declared.told.Edit.TheVariants.{Register, Memory}
 
--- what the lines so far describe: the hart, the readings, the number of ticks if one is said, and whether `pc` is said
-pub record StartState : Type 0 where
-  pub hart : HartState
-  pub readings : List ℕ
-  pub ticks : Option ℕ
-  pub has_pc : Bool
+-- ---- the generator
 
--- before any line: registers and RAM are 0, and so is the program counter
-abbrev pub nothing_set : ℕ → StartState
-nothing_set ram = record {
-  hart = record { pc = 0; regs = replicate 32 0; ram = replicate ram 0 };
-  readings = [];
-  ticks = None;
-  has_pc = false;
+-- the value after a value
+unfoldable pub successor : ℕ → ℕ
+successor value = (1664525 * value + 1013904223) % 2 ^ 32
+
+-- so many values behind a value
+abbrev pub generated : ℕ → ℕ → List ℕ
+generated zero value = []
+generated (suc count) value = successor value ∷ generated count (successor value)
+
+-- the last of so many values behind a value, or that value itself
+abbrev pub after : ℕ → ℕ → ℕ
+after zero value = value
+after (suc count) value = after count (successor value)
+
+-- ---- the hart
+
+-- the program counter, the registers x0 to x31, and the words of RAM in address order
+pub record BareState : Type 0 where
+  pub pc : ℕ
+  pub regs : List ℕ
+  pub ram : List ℕ
+
+-- each word of RAM is this one, and all else is 0
+abbrev pub filled : ℕ → ℕ → BareState
+filled words word = record { pc = 0; regs = replicate 32 0; ram = replicate words word }
+
+-- the generator's values from a seed: the words of RAM, then x1 to x31, then the program counter
+abbrev pub seeded : ℕ → ℕ → BareState
+seeded words seed = record {
+  pc = successor (after 31 (after words seed));
+  regs = 0 ∷ generated 31 (after words seed);
+  ram = generated words seed;
 }
 
--- what a setting adds; none where `ticks` or `pc` is said twice
-unfoldable pub with_setting : StartState → Setting → Option StartState
-with_setting state (Ticks n) = if is_none state.ticks then Some (record state { ticks = Some n }) else None
-with_setting state (ProgramCounter address) =
-    if state.has_pc then None else Some (record state { hart = record state.hart { pc = address }; has_pc = true })
-with_setting state (Register reg value) =
-    Some (record state { hart = record state.hart { regs = with_reg reg value state.hart.regs } })
-with_setting state (Memory offset word) =
-    Some (record state { hart = record state.hart { ram = stored 4 offset word state.hart.ram } })
-with_setting state (Reading word) = Some (record state { readings = state.readings ++ word ∷ [] })
+-- what `fill` or `seed` makes; where neither is said, all is 0
+abbrev pub base_of : ℕ → Option Base → BareState
+base_of words None = filled words 0
+base_of words (Some (Fill word)) = filled words word
+base_of words (Some (Seed seed)) = seeded words seed
 
--- what a line adds; a line that is passed over adds nothing
-unfoldable pub with_line : ℕ → StartState → List ℕ → Option StartState
-with_line ram state line = if is_passed line then Some state else option_and_then (with_setting state) (setting ram line)
+-- a register or a word of RAM that is set
+abbrev pub with_edit : BareState → Edit → BareState
+with_edit bare (Register number word) = record bare { regs = with_reg number word bare.regs }
+with_edit bare (Memory index word) = record bare { ram = slice_set bare.ram index word }
 
--- what lines add, one after another
-abbrev pub start_from : ℕ → StartState → List (List ℕ) → Option StartState
-start_from ram state [] = Some state
-start_from ram state (line ∷ lines) = option_and_then (λ next. start_from ram next lines) (with_line ram state line)
+-- what is set, in order
+abbrev pub with_edits : BareState → List Edit → BareState
+with_edits bare [] = bare
+with_edits bare (edit ∷ edits) = with_edits (with_edit bare edit) edits
 
--- what all lines of the section describe, in a machine with `ram` bytes of RAM
-abbrev pub start_of : ℕ → List (List ℕ) → Option StartState
-start_of ram lines = start_from ram (nothing_set ram) lines
+-- the number of words of RAM
+abbrev pub ram_words : ToldState → ℕ
+ram_words told = ram_size told.revision / 4
 
--- the number of ticks: 1 where none is said
-abbrev pub ticks_said : Option ℕ → ℕ
-ticks_said None = 1
-ticks_said (Some n) = n
+-- ---- the start
 
-abbrev pub ticks_of : StartState → ℕ
-ticks_of state = ticks_said state.ticks
+-- a hart as it starts, with the readings of its input ports
+pub record StartState : Type 0 where
+  pub pc : ℕ
+  pub regs : List ℕ
+  pub ram : List ℕ
+  pub readings : List ℕ
 
--- what lines describe is this start, with a number of ticks that a job may ask for
-pub record IsStart (described : Option StartState) (hart : HartState) (readings : List ℕ) (ticks : ℕ) : Type 0 where
-  pub state : StartState
-  pub found : described ≡ Some state
-  pub same_hart : hart ≡ state.hart
-  pub same_readings : readings ≡ state.readings
-  pub same_ticks : ticks ≡ ticks_of state
-  pub allowed : IsTicks ticks
+-- the start from what is set on the base, with the program counter that is said, if one is
+abbrev pub started : ToldState → BareState → StartState
+started told bare = record { pc = unwrap_or told.pc bare.pc; regs = bare.regs; ram = bare.ram; readings = told.readings }
 
--- the number of ticks, where one is said, is one that a job may ask for
-abbrev pub AreTicks : Option ℕ → Type 0
-AreTicks None = Unit {0}
-AreTicks (Some n) = IsTicks n
+-- a mode that runs no hart has none
+abbrev pub no_hart : BareState
+no_hart = record { pc = 0; regs = []; ram = [] }
+
+-- the hart that a job of this mode tells, its program counter that of the base
+abbrev pub bare_of : Mode → ToldState → BareState
+bare_of which told = if runs_hart which then with_edits (base_of (ram_words told) told.base) told.edits else no_hart
+
+-- the start that a job tells
+unfoldable pub start_of : Mode → ToldState → StartState
+start_of which told = started told (bare_of which told)
+
+-- ---- the hart of a start
+
+-- words of RAM as bytes, the lowest byte of each first
+abbrev pub bytes_of : List ℕ → List ℕ
+bytes_of words = flat_map (λ word. little_bytes 4 word) words
+
+-- the hart that starts so
+abbrev pub hart_of : StartState → HartState
+hart_of start = record { pc = start.pc; regs = start.regs; ram = bytes_of start.ram }

@@ -1,149 +1,191 @@
-//! The start of a bare hart that a job describes.
+//! The start of a bare hart: a base, and what a job sets on it.
 
-ghost use Rattle.std.specs.Prelude.{◌≡◌, ℕ, ◌+◌, ◌≤◌, ◌<◌, Some, None, IfOk, MatchOption, true, false, if◌then◌else◌};
-ghost use Rattle.rv_machine.specs.Memory.{IsMemorySize};
-ghost use Rattle.text_core.specs.Lines.{lines};
-ghost use Rattle.job_text.specs.Settings.{IsSetting, IsTicks};
-ghost use Rattle.job_text.specs.Start.{AreTicks, IsStart, StartState, nothing_set, start_of, ticks_said, with_line, with_setting};
+ghost use Rattle.std.specs.Prelude.{◌≡◌, ℕ, IfOk, slice_set};
+ghost use Rattle.std.specs.Option.{unwrap_or};
+ghost use Rattle.job_text.specs.Keys.{runs_hart};
+ghost use Rattle.job_text.specs.Ranges.{IsStartOf};
+ghost use Rattle.job_text.specs.Jobs.{start_state};
+ghost use Rattle.job_text.specs.Start.{after, bare_of, base_of, filled, generated, no_hart, seeded, start_of, successor, with_edit, with_edits};
 
-use crate::setting::{Setting, read_setting};
+use crate::key::runs_hart;
+use crate::mode::Mode;
+use crate::told::{Base, Edit, Told};
 use rv_encode::Words;
-use rv_machine::Hart;
 use std::alloc::{AllocError, Global};
 use std::marker::Model;
-use text_core::{is_passed, next_line};
 
-/// What a job for a bare hart describes: the hart as it starts, the readings of its input ports in their order, and
-/// how many ticks it runs, from 1 to 10,000,000.
+/// A hart as it starts: the program counter, the registers x0 to x31, the words of RAM in address order, and the readings of
+/// its input ports in their order.
 #[derive(Drop)]
-pub struct Start<const ROM: u32, const RAM: u32> {
-    pub hart: Hart<ROM, RAM>,
+pub struct Start {
+    pub pc: u32,
+    pub regs: Words,
+    pub ram: Words,
     pub readings: Words,
-    pub ticks: u32,
 }
 
-/// What the lines so far describe. Contracts see it as their state.
+/// The program counter, registers and RAM of a hart. Contracts see the lists.
 #[derive(Drop)]
-struct Draft<const ROM: u32, const RAM: u32> {
-    hart: Hart<ROM, RAM>,
-    readings: Words,
-    ticks: Option<u32>,
-    has_pc: bool,
+struct Bare {
+    pc: u32,
+    regs: Vec<u32>,
+    ram: Vec<u32>,
 }
 
-impl<const ROM: u32, const RAM: u32> Model for Draft<ROM, RAM> {
-    ghost use Rattle.job_text.specs.Start.{AreTicks, StartState};
+impl Model for Bare {
+    ghost use Rattle.job_text.specs.Start.{BareState};
 
-    ghost Value = { StartState };
+    ghost Value = { BareState };
 
-    ghost view = { λ d. record { hart = d.hart; readings = d.readings; ticks = d.ticks; has_pc = d.has_pc } };
-
-    ghost invariant = { λ d. AreTicks d.ticks };
+    ghost view = { λ b. record { pc = b.pc; regs = b.regs.items; ram = b.ram.items } };
 }
 
-impl<const ROM: u32, const RAM: u32> Draft<ROM, RAM> {
-    /// The state before any line.
-    fn new(alloc: Global) -> Result<Draft<ROM, RAM>, AllocError>
-        requires { IsMemorySize RAM }
-        ensures { IfOk result (λ draft. draft ≡ nothing_set RAM) }
-    {
-        Ok(Draft {
-            hart: Hart::new(alloc, 0)?,
-            readings: Words::new(alloc),
-            ticks: None,
-            has_pc: false,
-        })
-    }
-
-    /// Adds a setting. Answers false where it says again how many ticks run, or where the program counter stands.
-    #[tactic(auto, unfolding(crate::specs::Start::with_setting))]
-    fn apply(&mut self, setting: Setting) -> Result<bool, AllocError>
-        requires { IsSetting RAM setting }
-        ensures { IfOk result (λ once. (if once then Some self.new else None) ≡ with_setting self.old setting) }
-    {
-        match setting {
-            Setting::Ticks(ticks) => {
-                if self.ticks.is_some() {
-                    return Ok(false);
-                }
-                self.ticks = Some(ticks);
-            }
-            Setting::ProgramCounter(address) => {
-                if self.has_pc {
-                    return Ok(false);
-                }
-                self.hart.set_pc(address);
-                self.has_pc = true;
-            }
-            Setting::Register(reg, value) => self.hart.set_reg(reg, value),
-            Setting::Memory { offset, word } => self.hart.set_word(offset, word),
-            Setting::Reading(word) => self.readings.push(word)?,
-        }
-        Ok(true)
-    }
-
-    /// Adds a line, unless it is passed over. Answers false for a line of another form, and where `apply` does.
-    #[tactic(auto, unfolding(crate::specs::Start::with_line))]
-    fn take_line(&mut self, line: &[u8]) -> Result<bool, AllocError>
-        ensures { IfOk result (λ fine. (if fine then Some self.new else None) ≡ with_line RAM self.old line.now) }
-    {
-        if is_passed(line) {
-            return Ok(true);
-        }
-        match read_setting(RAM, line) {
-            Some(setting) => self.apply(setting),
-            None => Ok(false),
-        }
-    }
-
-    /// How many ticks run: 1 where no line says it.
-    fn ticks(&self) -> u32
-        ensures value { result ≡ ticks_said self.now.ticks }
-        ensures allowed { IsTicks result }
-    {
-        match self.ticks {
-            Some(ticks) => ticks,
-            None => 1,
-        }
-    }
-
-    /// The start that the lines described.
-    fn finish(self) -> Start<ROM, RAM>
-        ensures hart { result.hart ≡ self.entry.hart }
-        ensures readings { result.readings ≡ self.entry.readings }
-        ensures ticks { result.ticks ≡ ticks_said self.entry.ticks }
-        ensures allowed { IsTicks result.ticks }
-    {
-        let ticks = self.ticks();
-        Start {
-            hart: self.hart,
-            readings: self.readings,
-            ticks,
-        }
-    }
-}
-
-/// The start that the lines of a job's section `%run` describe. None exactly where a line has another form, or says
-/// again how many ticks run or where the program counter stands.
-///
-/// # Errors
-///
-/// `AllocError` where there is no memory for the RAM or for the readings.
-pub fn exec_start<const ROM: u32, const RAM: u32>(
-    alloc: Global,
-    run: &[u8],
-) -> Result<Option<Start<ROM, RAM>>, AllocError>
-    requires { IsMemorySize RAM }
-    ensures { IfOk result (λ found. MatchOption found (start_of RAM (lines run.now) ≡ None)
-        (λ start. IsStart (start_of RAM (lines run.now)) start.hart start.readings start.ticks)) }
+/// The value that the generator gives after this one.
+#[tactic(auto, unfolding(crate::specs::Start::successor))]
+fn successor(value: u32) -> u32
+    ensures { result ≡ successor value }
 {
-    let mut draft = Draft::new(alloc)?;
-    let mut rest = run;
-    'taking: while let Some((line, next)) = next_line(rest) {
-        if !draft.take_line(line)? {
-            return Ok(None);
-        }
-        rest = next;
+    ((1_664_525 * u64::from(value) + 1_013_904_223) % 4_294_967_296) as u32
+}
+
+/// So many values of the generator behind this one, and the last of them.
+fn generate(alloc: Global, count: u32, value: u32) -> Result<(Vec<u32>, u32), AllocError>
+    ensures values { IfOk result (λ found. found.0.items ≡ generated count value) }
+    ensures last { IfOk result (λ found. found.1 ≡ after count value) }
+{
+    let mut values = Vec::new(alloc);
+    let mut last = value;
+    for index in 0..count {
+        last = successor(last);
+        values.push(last)?;
     }
-    Ok(Some(draft.finish()))
+    Ok((values, last))
+}
+
+/// A hart whose words of RAM are all this one.
+fn filled(alloc: Global, words: u32, word: u32) -> Result<Bare, AllocError>
+    ensures { IfOk result (λ bare. bare ≡ filled words word) }
+{
+    Ok(Bare {
+        pc: 0,
+        regs: vec![in alloc; 0; 32]?,
+        ram: vec![in alloc; word; words as usize]?,
+    })
+}
+
+/// A hart whose RAM, registers and program counter are the generator's values from this seed.
+fn seeded(alloc: Global, words: u32, seed: u32) -> Result<Bare, AllocError>
+    ensures { IfOk result (λ bare. bare ≡ seeded words seed) }
+{
+    let (ram, last) = generate(alloc, words, seed)?;
+    let (values, last) = generate(alloc, 31, last)?;
+    let mut regs = vec![in alloc; 0; 1]?;
+    regs.extend_from_slice(&values)?;
+    Ok(Bare {
+        pc: successor(last),
+        regs,
+        ram,
+    })
+}
+
+/// The hart on which a job sets what it sets.
+fn base_of(alloc: Global, words: u32, base: Option<Base>) -> Result<Bare, AllocError>
+    ensures { IfOk result (λ bare. bare ≡ base_of words base) }
+{
+    match base {
+        None => filled(alloc, words, 0),
+        Some(Base::Fill(word)) => filled(alloc, words, word),
+        Some(Base::Seed(seed)) => seeded(alloc, words, seed),
+    }
+}
+
+/// Puts a value in a place of a list that has this place.
+fn put(values: &mut Vec<u32>, place: u32, value: u32)
+    ensures { values.new.items ≡ slice_set values.old.items place value }
+{
+    let place = place as usize;
+    if place < values.len() {
+        values[place] = value;
+    }
+}
+
+impl Bare {
+    /// Sets a register, where it isn't x0, or a word of RAM.
+    fn set(&mut self, edit: Edit)
+        ensures { self.new ≡ with_edit self.old edit }
+    {
+        match edit {
+            Edit::Register { number: 0, .. } => {}
+            Edit::Register { number, word } => put(&mut self.regs, number, word),
+            Edit::Memory { index, word } => put(&mut self.ram, index, word),
+        }
+    }
+
+    /// Sets registers and words of RAM one after another.
+    fn set_all(&mut self, edits: &[Edit])
+        ensures { self.new ≡ with_edits self.old edits.now }
+    {
+        for edit in edits {
+            self.set(*edit);
+        }
+    }
+}
+
+/// A list of words of these values.
+fn words_of(alloc: Global, values: &[u32]) -> Result<Words, AllocError>
+    ensures { IfOk result (λ words. words ≡ values.now) }
+{
+    let mut words = Words::new(alloc);
+    for value in values {
+        words.push(*value)?;
+    }
+    Ok(words)
+}
+
+/// No hart.
+fn no_hart(alloc: Global) -> Bare
+    ensures { result ≡ no_hart }
+{
+    Bare {
+        pc: 0,
+        regs: Vec::new(alloc),
+        ram: Vec::new(alloc),
+    }
+}
+
+/// The hart that a job of this mode tells, its program counter that of the base.
+fn bare_of(alloc: Global, mode: Mode, told: &Told) -> Result<Bare, AllocError>
+    ensures { IfOk result (λ bare. bare ≡ bare_of mode told.now) }
+{
+    if !runs_hart(mode) {
+        return Ok(no_hart(alloc));
+    }
+    let mut bare = base_of(alloc, told.ram() / 4, told.base)?;
+    bare.set_all(&told.edits);
+    Ok(bare)
+}
+
+/// The start that a job tells.
+#[tactic(auto, unfolding(crate::specs::Start::start_of))]
+fn make_start(alloc: Global, mode: Mode, told: Told) -> Result<Start, AllocError>
+    ensures { IfOk result (λ start. start_state start ≡ start_of mode told) }
+{
+    let bare = bare_of(alloc, mode, &told)?;
+    Ok(Start {
+        pc: told.pc.unwrap_or(bare.pc),
+        regs: words_of(alloc, &bare.regs)?,
+        ram: words_of(alloc, &bare.ram)?,
+        readings: told.readings,
+    })
+}
+
+/// The start that a job tells, with its registers and the words of RAM where the mode runs a hart.
+pub(crate) fn start_of(alloc: Global, mode: Mode, told: Told) -> Result<Start, AllocError>
+    ensures value { IfOk result (λ start. start_state start ≡ start_of mode told) }
+    ensures whole { IfOk result (λ start. IsStartOf (runs_hart mode) (unwrap_or told.revision 1) start.regs start.ram) }
+{
+    match make_start(alloc, mode, told) {
+        Err(error) => Err(error),
+        Ok(start) => Ok(start),
+    }
 }

@@ -1,239 +1,101 @@
-//! The forms of a job's text at their edges, against values worked out by hand, and that the calls succeed where
-//! memory is there.
+//! Jobs of modes that no other test reaches, and the parts and the start of one.
 
-ghost use Rattle.std.specs.Prelude.{◌≤◌, ◌^◌, length};
+ghost use Rattle.std.specs.Prelude.{◌<◌, ◌^◌, length};
 
 use super::*;
-use rv_isa::Reg;
 use std::process::Abort;
 use std::test::Fail;
 
+/// Jobs for `make` and `run` with `~` for a line feed, behind the code and the line of their first fault, or zeros.
+const FIRST_FAULTS: &str = "\
+make 0 0: ~
+make 0 0: %set~
+make 0 0: %set~shape looped~layout packed~revision 2~nodes 64~states 256~seed FFFFFFFF
+make 401 1: %run~
+make 401 2: %set~%source~
+make 402 2: %set~rounds 1~
+make 403 2: %set~nodes 2~
+make 403 2: %set~nodes 65~
+make 402 3: %set~nodes 3~nodes 3~
+make 402 3: %set~nodes 3~nodes 2~
+make 0 0: %set~states 10~nodes 5~
+make 403 2: %set~states 4~nodes 5~
+make 403 2: %set~states 10~
+make 0 0: %set~states 64~
+make 403 3: %set~states 10~nodes 2~nodes 7~
+make 403 2: %set~states 257~nodes 2~
+make 402 3: %set~nodes 3~states x~
+make 402 2: %set~seed 123456789~
+run 0 0: %source~%run~
+run 401 2: ~
+run 401 3: %set~# nothing~
+run 402 4: %source~%run~rounds 2~ticks 2~
+run 403 3: %source~%run~rounds 1000001~
+run 402 4: %source~%run~fill 1~seed 1~
+run 402 3: %source~%run~value x 1~
+run 0 0: %set~revision 2~%source~%run~at any~ram 100ffffc 1~
+run 403 3: %source~%run~ram 10040000 1~";
+
 /// The bytes of a job, short enough to be one.
-fn job(rt: &impl Abort, text: &'static str) -> &'static [u8]
-    ensures { length result.now ≤ 2 ^ 20 }
+fn job<'a>(rt: &impl Abort, text: &'a str) -> &'a [u8]
+    ensures { length result.now < 2 ^ 31 }
 {
     let bytes = text.as_bytes();
-    assert!(rt; bytes.len() <= 1_000);
+    assert!(rt; bytes.len() <= 100_000);
     bytes
 }
 
-#[test]
-fn jobs_of_one_section(rt: HostRuntime) {
-    for (text, want) in [
-        ("%source\nabc\n", Some(("abc\n", 2))),
-        ("\n \t\n# x\r\n%source\r\na\r\nb", Some(("a\r\nb", 5))),
-        ("%source", Some(("", 2))),
-        ("%source\n\n", Some(("\n", 2))),
-        ("%source\na % b\n %rom\n#\n", Some(("a % b\n %rom\n#\n", 2))),
-        ("", None),
-        ("# a comment", None),
-        ("x\n%source\n", None),
-        (" %source\n", None),
-        ("%source \n", None),
-        ("%source\r", None),
-        ("%Source\n", None),
-        ("%\n%source\n", None),
-        ("%source\n%source\n", None),
-        ("%source\na\n%rom\n", None),
-        ("%rom\n", None),
-    ] {
-        let found = source_job(job(&rt, text)).map(|part| (part.text, part.first_line));
-        let want = want.map(|(text, line)| (text.as_bytes(), line));
-        assert_eq!(rt; found, want, "{text}");
-    }
-    for (text, want) in [
-        ("%rom\n13\n", Some(("13\n", 2))),
-        ("%rom\n13\n%run\n", None),
-        ("%source\n", None),
-    ] {
-        let found = rom_job(job(&rt, text)).map(|part| (part.text, part.first_line));
-        let want = want.map(|(text, line)| (text.as_bytes(), line));
-        assert_eq!(rt; found, want, "{text}");
+/// The code and the line of a refusal, two zeros where the job is read.
+fn refusal(end: Result<Job, JobEnd>) -> (u32, u32) {
+    match end {
+        Ok(_) => (0, 0),
+        Err(JobEnd::Fault { fault, line }) => (fault.code(), line),
+        Err(JobEnd::NoMemory) => (1, 1),
     }
 }
 
 #[test]
-fn jobs_for_a_hart(rt: HostRuntime) {
-    for (text, want) in [
-        ("%rom\n13\n", Some(("13\n", 2, ""))),
-        (
-            "\n#\n%rom\n6\n\n%run\nticks 2\n",
-            Some(("6\n\n", 4, "ticks 2\n")),
-        ),
-        ("%rom\r\n6\r\n%run\r\npc 4", Some(("6\r\n", 2, "pc 4"))),
-        ("%rom\n%run", Some(("", 2, ""))),
-        ("", None),
-        ("13\n%rom\n", None),
-        ("%run\n", None),
-        ("%run\n%rom\n", None),
-        ("%rom\n%run \n", None),
-        ("%rom\n%rom\n", None),
-        ("%rom\n%run\n%run\n", None),
-        ("%rom\n%run\n%rom\n", None),
-        ("%rom\n%source\n", None),
-    ] {
-        let found = exec_job(job(&rt, text)).map(|(rom, run)| (rom.text, rom.first_line, run));
-        let want = want.map(|(text, line, run)| (text.as_bytes(), line, run.as_bytes()));
-        assert_eq!(rt; found, want, "{text}");
-    }
-}
-
-#[test]
-fn jobs_of_a_model(rt: HostRuntime) {
-    for (text, want) in [
-        ("%source\na\n", Some(("a\n", 2, ""))),
-        (
-            "\r\n#\n%source\r\na % b\r\n %run\r\n\n%run\r\nrounds 2\r\n",
-            Some(("a % b\r\n %run\r\n\n", 4, "rounds 2\r\n")),
-        ),
-        ("%source\n\r\r\n%run", Some(("\r\r\n", 2, ""))),
-        ("%source\n%run\n#", Some(("", 2, "#"))),
-        ("%source", Some(("", 2, ""))),
-        ("", None),
-        ("a\n%source\n", None),
-        ("%run\n", None),
-        ("%run\n%source\n", None),
-        ("%source\n%run \n", None),
-        ("%source\na\r%run\n%rom\n", None),
-        ("%source\n%source\n", None),
-        ("%source\n%run\n%run\n", None),
-        ("%source\n%run\n%source\n", None),
-        ("%rom\n%run\n", None),
-    ] {
-        let found = model_job(job(&rt, text)).map(|(source, run)| (
-            source.text,
-            source.first_line,
-            run,
-        ));
-        let want = want.map(|(text, line, run)| (text.as_bytes(), line, run.as_bytes()));
-        assert_eq!(rt; found, want, "{text}");
-    }
-}
-
-#[test]
-fn lines_describe_a_run(rt: HostRuntime) -> Result<(), Fail> {
-    for (text, rounds, readings) in [
-        ("", 1, [].as_slice()),
-        ("# rounds 4\n \t\r\nrounds 7\r\n", 7, &[]),
-        ("rounds 1000000", 1_000_000, &[]),
-        (
-            "in 2\n\tin \t 1 \nrounds 1\nin ABCDef01",
-            1,
-            &[2, 1, 0xabcd_ef01],
-        ),
-    ] {
-        let Some(run) = model_run(rt.alloc(), text.as_bytes())? else {
-            assert!(rt; false, "{text}");
-            continue;
-        };
-        assert_eq!(rt; run.rounds, rounds, "{text}");
-        assert_eq!(rt; run.readings.list(), readings, "{text}");
-    }
-    for text in [
-        "rounds",
-        "rounds 0",
-        "rounds 01",
-        "rounds 1000001",
-        "rounds a",
-        "rounds 1 1",
-        "rounds 1\nin 1\nrounds 1",
-        "Rounds 1",
-        "in",
-        "in 123456789",
-        "in 0x1",
-        "in 1 1",
-        "in 1 # a reading",
-        "ticks 1",
-        "pc 0",
-        "reg 1 1",
-        "%run",
-    ] {
-        let found = model_run(rt.alloc(), text.as_bytes())?;
-        assert!(rt; found.is_none(), "{text}");
+fn first_faults(rt: HostRuntime) -> Result<(), Fail> {
+    let alloc = rt.alloc();
+    for row in FIRST_FAULTS.lines() {
+        let (head, text) = row.split_once(": ").ok_or("a row has a colon")?;
+        let mut words = head.split(' ');
+        let mode = Mode::of(words.next().unwrap_or("")).ok_or("a row has a mode")?;
+        let code = words.next().unwrap_or("").parse().unwrap_or(9_u32);
+        let line = words.next().unwrap_or("").parse().unwrap_or(9_u32);
+        let text = text.replace(alloc, '~', "\n")?;
+        let found = refusal(read_job(alloc, mode, job(&rt, &text)));
+        assert_eq!(rt; found, (code, line), "{row}");
     }
     Ok(())
 }
 
-#[test]
-fn lines_describe_a_start(rt: HostRuntime) -> Result<(), Fail> {
-    // The lines, and then the program counter, the ticks, x1, x31, the first and the last word of RAM, the readings.
-    for (text, pc, ticks, x1, x31, first, last, readings) in [
-        ("", 0, 1, 0, 0, 0, 0, [].as_slice()),
-        ("# pc 4\r\n \t\r\nticks 7\r\n", 0, 7, 0, 0, 0, 0, &[]),
-        ("ticks 10000000", 0, 10_000_000, 0, 0, 0, 0, &[]),
-        ("pc ABCDef01\n", 0xabcd_ef01, 1, 0, 0, 0, 0, &[]),
-        (
-            "reg 1 1\nreg 31 ffffffff\nreg 1 2",
-            0,
-            1,
-            2,
-            0xffff_ffff,
-            0,
-            0,
-            &[],
-        ),
-        (
-            "ram 10000000 a\nram 1003fffc 00000001\nram 10000000 b\n",
-            0,
-            1,
-            0,
-            0,
-            0xb,
-            1,
-            &[],
-        ),
-        ("in 2\n\tin \t 1 \nin 2\n", 0, 1, 0, 0, 0, 0, &[2, 1, 2]),
-    ] {
-        let Some(start) = exec_start::<0x4_0000, 0x4_0000>(rt.alloc(), text.as_bytes())? else {
-            assert!(rt; false, "{text}");
-            continue;
-        };
-        assert_eq!(rt; start.hart.pc(), pc, "{text}");
-        assert_eq!(rt; start.ticks, ticks, "{text}");
-        assert_eq!(rt; start.hart.reg(Reg::new(1).unwrap()), x1, "{text}");
-        assert_eq!(rt; start.hart.reg(Reg::new(31).unwrap()), x31, "{text}");
-        assert_eq!(rt; start.hart.word(0), first, "{text}");
-        assert_eq!(rt; start.hart.word(0x3_fffc), last, "{text}");
-        assert_eq!(rt; start.readings.list(), readings, "{text}");
-    }
-    Ok(())
+/// The bytes and the line of a part.
+fn place(part: Part) -> (usize, usize, u32) {
+    (part.from, part.to, part.line)
 }
 
 #[test]
-fn lines_of_another_form(rt: HostRuntime) -> Result<(), Fail> {
-    for text in [
-        "ticks",
-        "ticks 0",
-        "ticks 01",
-        "ticks 10000001",
-        "ticks a",
-        "ticks 1 1",
-        "ticks 1\nticks 1",
-        "Ticks 1",
-        "pc",
-        "pc 100000000",
-        "pc 0x4",
-        "pc 4\n\npc 4",
-        "reg 0 1",
-        "reg 32 1",
-        "reg x1 1",
-        "reg 1",
-        "reg 1 g",
-        "reg 1 1 1",
-        "ram 10000002 1",
-        "ram 0ffffffc 1",
-        "ram 10040000 1",
-        "ram 10000000",
-        "in",
-        "in 1 1",
-        "fill 0",
-        "seed 0",
-        "at 0",
-        "%run",
-        "in 1 # a reading",
-    ] {
-        let found = exec_start::<0x4_0000, 0x4_0000>(rt.alloc(), text.as_bytes())?;
-        assert!(rt; found.is_none(), "{text}");
-    }
+fn parts_and_start(rt: HostRuntime) -> Result<(), Fail> {
+    let text = "# a\n%rom\n13\n14\n%run\nreg 1 7\nseed 0\npc 8\nram 10000004 5\nin 6\nreg 1 9\n";
+    let found = read_job(rt.alloc(), Mode::Exec, job(&rt, text))
+        .ok()
+        .ok_or("the job is one")?;
+    assert_eq!(rt; place(found.rom), (9, 15, 3));
+    assert_eq!(rt; place(found.script), (20, text.len(), 6));
+    assert_eq!(rt; place(found.source), (0, 0, 1));
+    assert_eq!(rt; found.start.pc, 8);
+    let ram = found.start.ram.list();
+    assert_eq!(rt;
+        (ram.len(), ram[0], ram[1], ram[2]),
+        (65_536, 0x3c6e_f35f, 5, 0xd1cc_f6e9)
+    );
+    let regs = found.start.regs.list();
+    assert_eq!(rt; (regs.len(), regs[0], regs[1]), (32, 0, 9));
+    assert_eq!(rt; found.start.readings.list(), [6].as_slice());
+    assert_eq!(rt;
+        (found.ticks, found.rounds, found.nodes, found.states),
+        (1, 1, 64, 64)
+    );
     Ok(())
 }

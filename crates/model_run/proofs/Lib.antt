@@ -1,5 +1,1 @@
-pub mod Arguments
-pub mod Each
-pub mod Functions
 pub mod Rounds
-pub mod Tuples

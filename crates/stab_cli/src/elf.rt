@@ -10,14 +10,15 @@ use crate::image_words::job_words;
 use crate::job_end::JobEnd;
 use crate::top_call::MAX_INPUT;
 use image_files::write_elf;
+use job_text::Mode;
 use stab_io::Bytes;
 use std::alloc::Global;
 
 /// What `elf` answers to a job.
 pub fn text(alloc: Global, bytes: &[u8]) -> Result<Bytes, JobEnd>
     requires { length bytes.now ≤ MAX_INPUT }
-    ensures { Judges (IsVerdictOn (job_words bytes.now)) (IsTextOf elf_bytes (job_words bytes.now)) result }
+    ensures { Judges (IsVerdictOn (job_words Mode.Elf bytes.now)) (IsTextOf elf_bytes (job_words Mode.Elf bytes.now)) result }
 {
-    let words = job_words(alloc, bytes)?;
+    let words = job_words(alloc, Mode::Elf, bytes)?;
     Ok(write_elf(alloc, &words)?)
 }

@@ -21,7 +21,7 @@ use Rattle.state_space.specs.declared.update.Update.{Update}
 use Rattle.state_layout.specs.declared.cell.Cell.{Cell}
 use Rattle.state_layout.specs.Map.{IsCell, Placement, clash, decoded, state_cells}
 use Rattle.staged_commit.specs.Code.{clear_cells, clear_mark, clear_unrolled, commit_cells, commit_unrolled, unless_marked}
-use Rattle.staged_commit.specs.Law.{IsCoded, need}
+use Rattle.staged_commit.specs.Law.{GoesThrough, IsCoded, need}
 use Rattle.staged_commit.specs.Regions.{in_clear, in_commit}
 use Rattle.staged_commit.specs.Spots.{Mark, seen}
 use Rattle.staged_commit.specs.Staged.{Staged}
@@ -151,6 +151,16 @@ module _ (placement : Placement) (coded : IsCoded placement) where
       walked-touches (need placement) (only_in (in_commit placement)) CopyPost (commit_cells placement cells) (copy-walks cells all-cells) (commit-line placement cells),
     ),
   )
+
+  -- whatever RAM holds, it goes through
+  pub commit-through : GoesThrough placement (commit_unrolled placement)
+  commit-through rom size address s e room =
+      unless-leads (Line (commit_cells placement cells)) rom size room address s (λ s'. Unit {0}) e
+      (λ s' dirty same. tt)
+      (λ at m clean same entered.
+      leads-more rom size at (Line (commit_cells placement cells)) m (CopyPost size m) (λ s'. Unit {0})
+      (walked-leads (need placement) (only_in (in_commit placement)) CopyPost (commit_cells placement cells) (copy-walks cells all-cells) rom size at m entered room)
+      (λ s' d post. tt))
 
   -- what is staged is fired
   pub commit-leads : (rom : List ℕ) (size address : ℕ) (s : Moment) (updates : List Update) → IsEntered rom size address (commit_unrolled placement) s → need placement ≤ size

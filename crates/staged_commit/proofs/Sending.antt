@@ -41,6 +41,7 @@ use Rattle.staged_commit.specs.Ports.{sending, sends}
 use Rattle.staged_commit.specs.Spots.{Value}
 use Rattle.staged_commit.proofs.Lines.{load-line}
 use Rattle.staged_commit.proofs.Pieces.{all-from}
+use Rattle.staged_commit.proofs.Ranged.{lo-fits, lo-word, value-word}
 use Rattle.staged_commit.proofs.Spotted.{spot-below}
 use Rattle.staged_commit.proofs.Spread.{is-offset}
 use Rattle.staged_commit.proofs.Staging.{all-at}
@@ -87,7 +88,7 @@ module _ (placement : Placement) (coded : IsCoded placement) where
         (is-offset placement coded.small (Value cell) all.0) (λ r. spot-below placement (Value cell) all.0 size r.room)
         (λ a top_a loaded.
         walk-decode rom size machine Room sending last (address + 4 + 4) 4 range.size range.lo a Post top_a (omega arith) (record { from = omega arith; to = omega arith }) maskable
-        (coded.fits cell.fun) (coded.words cell.fun) (coded.values cell.fun (index_of range.size (reg_at 5 a)) (every-word-has-an-index range.size (reg_at 5 a) maskable.some).0)
+        (lo-fits placement coded cell.fun) (lo-word placement coded cell.fun) (value-word placement coded cell.fun (index_of range.size (reg_at 5 a)) (every-word-has-an-index range.size (reg_at 5 a) maskable.some).0)
         (λ b top_b decoded.
         walk-sets rom size machine Room sending (Lui scratch 0x20001) (Sw scratch 5 (pos (4 * port)) ∷ rest) (address + 4 + 4 + 36) 20 0x2000_1000 b Post top_b
         (omega arith) (omega arith) (does-lui rom (offered b.readings) b.hart scratch 0x20001) (access-portless rom (Lui scratch 0x20001) b tt)

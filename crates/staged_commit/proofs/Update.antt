@@ -11,9 +11,9 @@ use Rattle.block_code.specs.Effect.{reg_at}
 use Rattle.block_code.specs.Footprint.{LinesTouchOnly, only_in}
 use Rattle.block_code.specs.Leads.{IsEntered, Leads}
 use Rattle.block_code.specs.Moment.{Moment}
-use Rattle.block_code.specs.Plan.{Line, Plan, Seq, entry, len}
+use Rattle.block_code.specs.Plan.{If, Line, Loop, Plan, Scan, Seq, entry, full, len}
+use Rattle.block_code.specs.Silent.{IsStorelessPlan}
 use Rattle.block_code.proofs.Leads.{leads-more, leads-seq}
-use Rattle.block_code.proofs.Place.{full-le-entry}
 use Rattle.mask_guard.specs.Mask.{word_of}
 use Rattle.mask_guard.specs.MaskLaw.{IsMaskable}
 use Rattle.mask_guard.proofs.Numbers.{every-word-has-an-index, words-subtract}
@@ -30,17 +30,27 @@ use Rattle.state_layout.specs.Map.{IsCell, Placement, access_at, args_of, range_
 use Rattle.state_layout.proofs.Arrays.{padded-some}
 use Rattle.state_layout.proofs.HeldState.{indices-fit}
 use Rattle.staged_commit.specs.Code.{padded_at, stage_line, stage_update, stage_value}
-use Rattle.staged_commit.specs.Law.{HasState, IsCoded, Stages, StagesOnly, need}
+use Rattle.staged_commit.specs.Law.{HasState, IsCoded, Stages, StagesOnly, StagesThrough, need}
 use Rattle.staged_commit.specs.Regions.{in_stage}
 use Rattle.staged_commit.specs.Spots.{seen}
 use Rattle.staged_commit.specs.Staged.{IsUpdateOf, Staged}
 use Rattle.staged_commit.proofs.Lines.{stage-line}
 use Rattle.staged_commit.proofs.Pieces.{entered-behind, entered-first}
+use Rattle.staged_commit.proofs.Ranged.{lo-fits, lo-word}
 use Rattle.staged_commit.proofs.Stage.{StagesOne, walks-value}
 use Rattle.staged_commit.proofs.Staging.{is-cell, more-staged}
 use Rattle.staged_commit.proofs.Steps.{walk-mask}
 use Rattle.staged_commit.proofs.Touched.{Sound, Walks, walked-leads, walked-touches}
 use Rattle.staged_commit.proofs.Walk.{walk-more}
+
+-- a block without loops takes no more ticks than it has words
+loopless-ticks : (tree : Plan) → IsStorelessPlan tree → (full tree ≤ len tree) × (entry tree ≤ len tree)
+loopless-ticks (Line instrs) p = (omega arith, omega arith)
+loopless-ticks (Seq first second) p = let a = loopless-ticks first p.0 in let b = loopless-ticks second p.1 in (omega (arith, a.0, b.0), omega (arith, a.0, a.1, b.0, b.1))
+loopless-ticks (If test then_part else_part) p =
+    let a = loopless-ticks then_part p.0 in let b = loopless-ticks else_part p.1 in (omega (arith, a.0, b.0), omega (arith, a.1, b.1))
+loopless-ticks (Loop count slot body) p = absurd p
+loopless-ticks (Scan count slot guard test found none) p = absurd p
 
 back : (lo : ℤ) (x : ℕ) → lo +ℤ pos x -ℤ lo ≡ pos x
 back lo x = omega (arith, ints)
@@ -80,7 +90,7 @@ module _ (placement : Placement) (coded : IsCoded placement) where
         (subst (λ n. StagesOne placement (record { fun = fun; index = n }) (index_of_value s) (seen placement m.hart.ram) (seen placement e.hart.ram)) i
         (subst (λ n. StagesOne placement (record { fun = fun; index = reg_at 5 m }) n (seen placement m.hart.ram) (seen placement e.hart.ram)) v
         (post room (subst (λ n. n < 256 ^ bytes_of (access_at placement fun)) (sym v) low)))))
-        (walks-value placement coded.small fun count (coded.words fun) rom size machine address (address + 24) m at (omega arith)
+        (walks-value placement coded.small fun count (lo-word placement coded fun) rom size machine address (address + 24) m at (omega arith)
         (record { signature = signature; here = here; held = held; below = below }) below))
 
     pub stage-block : (address value : Plan) → IsBlock address → IsBlock value → IsBlock (stage_update placement fun count address value)
@@ -91,6 +101,22 @@ module _ (placement : Placement) (coded : IsCoded placement) where
         → LinesTouchOnly (only_in (in_stage placement fun count)) (stage_update placement fun count address value)
     stage-touches address value a v =
         (a, (v, walked-touches (need placement) (only_in (in_stage placement fun count)) StagePost (stage_line placement fun count) stage-walks (stage-line placement fun count)))
+
+    -- whatever RAM holds, it goes through, if its parts do
+    pub stage-through : (address value : Plan) → StagesThrough placement address value (stage_update placement fun count address value)
+    stage-through address value rom size at s e room first second =
+        leads-seq rom size at address (Seq value line) s _ _ first
+        (λ m b.
+        let f = entered-behind rom size at address (Seq value line) s m _ e b in
+        leads-seq rom size (at + 4 * len address) value line m _ _ (second m (entered-first rom size (at + 4 * len address) value line m f))
+        (λ n c.
+        leads-more rom size (at + 4 * len address + 4 * len value) line n (StagePost size n) (λ z. Unit {0})
+        (walked-leads (need placement) (only_in (in_stage placement fun count)) StagePost (stage_line placement fun count) stage-walks rom size (at + 4 * len address + 4 * len value) n
+        (entered-behind rom size (at + 4 * len address) value line m n _ f c) room)
+        (λ z d post. tt)))
+      where
+        line : Plan
+        line = Line (stage_line placement fun count)
 
     -- an update of a location of the function, whose padded index the one part leaves in register 5 and whose value the other leaves in register 6
     pub stage-leads : (address value : Plan) (rom : List ℕ) (size at : ℕ) (s : Moment) (updates : List Update) (u : Update) (index x : ℕ)
@@ -140,7 +166,7 @@ module _ (placement : Placement) (coded : IsCoded placement) where
         -- the difference from the least value is the index
         counted : minus (word_of u.value) (word_of (range_at placement fun).lo) ≡ x
         counted =
-            words-subtract u.value (range_at placement fun).lo fits (coded.fits fun)
+            words-subtract u.value (range_at placement fun).lo fits (lo-fits placement coded fun)
             ∙ ap word_of (ap (λ z. z -ℤ (range_at placement fun).lo) is.value.counts ∙ back (range_at placement fun).lo x)
 
         low : x < 256 ^ bytes_of (access_at placement fun)
@@ -170,10 +196,14 @@ module _ (placement : Placement) (coded : IsCoded placement) where
         (λ n. LinesTouchOnly (only_in (in_stage placement fun n)) address → LinesTouchOnly (only_in (in_stage placement fun n)) value → LinesTouchOnly (only_in (in_stage placement fun n)) (stage_update placement fun n address value))
         padded-is (stage-touches fun state.signature state.here state.held address value)
 
-    pub update-in_range : (address value : Plan) → IsInRange address → IsInRange value → len address + len value + 40 ≤ 262144 → entry address + entry value + 40 ≤ 2 ^ 62
+    pub update-through : (address value : Plan) → StagesThrough placement address value (stage_update placement fun (padded_at placement fun) address value)
+    update-through address value =
+        subst (λ n. StagesThrough placement address value (stage_update placement fun n address value)) padded-is (stage-through fun state.signature state.here state.held address value)
+
+    pub update-in_range : (address value : Plan) → IsInRange address → IsInRange value → IsStorelessPlan address → IsStorelessPlan value → len address + len value + 40 ≤ 262144
         → IsInRange (stage_update placement fun (padded_at placement fun) address value)
-    update-in_range address value a v words ticks =
-        let first = full-le-entry address in let second = full-le-entry value in
+    update-in_range address value a v p q words =
+        let first = loopless-ticks address p in let second = loopless-ticks value q in
         record {
           block = (a.block, (v.block, stage-line placement fun (padded_at placement fun)));
           short = omega arith;

@@ -1,5 +1,5 @@
 -- What the pieces of a round do.
-use Rattle.std.specs.Prelude.{◌≡◌, ℕ, ◌+◌, ◌*◌, ◌^◌, ◌<◌, ◌≤◌, pos, ◌+ℤ◌, List, [], ◌∷◌, ◌++◌, drop, length, slice_get, true, Some, FitsSigned}
+use Rattle.std.specs.Prelude.{◌≡◌, ℕ, ◌+◌, ◌*◌, ◌^◌, ◌≤◌, List, [], ◌∷◌, ◌++◌, drop, length, slice_get, true, Some, FitsSigned}
 use Rattle.std.specs.Int.{w32}
 use Rattle.block_code.specs.Effect.{reg_at}
 use Rattle.block_code.specs.Footprint.{LinesTouchOnly, only_in}
@@ -11,7 +11,7 @@ use Rattle.state_space.specs.Firing.{fired}
 use Rattle.state_space.specs.Locations.{is_state}
 use Rattle.state_space.specs.declared.signature.Signature.{Signature}
 use Rattle.state_space.specs.declared.update.Update.{Update}
-use Rattle.state_layout.specs.Map.{Placement, decoded, input_cells, kept_end, range_at}
+use Rattle.state_layout.specs.Map.{Placement, decoded, input_cells, kept_end}
 use Rattle.state_layout.specs.MapLaw.{IsPlaced}
 use Rattle.state_layout.specs.Inputs.{HoldsInputs}
 use Rattle.staged_commit.specs.Code.{first, output_cells, padded_at, second}
@@ -23,14 +23,10 @@ use Rattle.staged_commit.specs.Staged.{IsUpdateOf, Staged}
 abbrev pub need : Placement → ℕ
 need placement = kept_end placement + 8
 
--- a map that code can be written for: its words lie at offsets of RAM, and the least values of its ranges are words
+-- a map that code can be written for: what is placed lies at offsets of RAM
 pub record IsCoded (placement : Placement) : Type 0 where
   pub placed : IsPlaced placement
   pub small : need placement ≤ 2 ^ 20
-  pub fits : (fun : ℕ) → FitsSigned w32 (range_at placement fun).lo
-  pub words : (fun : ℕ) → word_of (range_at placement fun).lo < 2 ^ 32
-  -- and so are all values
-  pub values : (fun index : ℕ) → index < (range_at placement fun).size → word_of ((range_at placement fun).lo +ℤ pos index) < 2 ^ 32
 
 -- the block leads from every hart to where nothing is staged, if RAM is large enough
 abbrev pub Clears : Placement → Plan → Type 0
@@ -43,6 +39,10 @@ abbrev pub Commits : Placement → Plan → Type 0
 Commits placement tree =
     (rom : List ℕ) (size address : ℕ) (s : Moment) (updates : List Update) → IsEntered rom size address tree s → need placement ≤ size → Staged placement s.hart.ram updates
     → Leads rom size address tree (λ s'. decoded placement s'.hart.ram ≡ fired (decoded placement s.hart.ram) updates) s
+
+-- from every hart, whatever RAM holds, the block is left behind its last word without a trap, if RAM is large enough
+abbrev pub GoesThrough : Placement → Plan → Type 0
+GoesThrough placement tree = (rom : List ℕ) (size address : ℕ) (s : Moment) → IsEntered rom size address tree s → need placement ≤ size → Leads rom size address tree (λ s'. Unit {0}) s
 
 -- the function with this number has its values in the state
 pub record HasState (signatures : List Signature) (fun : ℕ) : Type 0 where
@@ -60,6 +60,13 @@ Stages placement fun address value tree =
     → ((m : Moment) → IsEntered rom size (at + 4 * len address) value m → m.hart.ram ≡ s.hart.ram → reg_at first m ≡ index
     → Leads rom size (at + 4 * len address) value (λ n. (n.hart.ram ≡ s.hart.ram) × (reg_at first n ≡ index) × (reg_at second n ≡ word_of u.value)) m)
     → Leads rom size at tree (λ e. Staged placement e.hart.ram (updates ++ u ∷ [])) s
+
+-- whatever RAM holds, and whatever its parts leave, the block is left behind its last word without a trap, if its parts are
+abbrev pub StagesThrough : Placement → (address value tree : Plan) → Type 0
+StagesThrough placement address value tree =
+    (rom : List ℕ) (size at : ℕ) (s : Moment) → IsEntered rom size at tree s → need placement ≤ size → Leads rom size at address (λ m. Unit {0}) s
+    → ((m : Moment) → IsEntered rom size (at + 4 * len address) value m → Leads rom size (at + 4 * len address) value (λ n. Unit {0}) m)
+    → Leads rom size at tree (λ e. Unit {0}) s
 
 -- the block touches the function's staged values and flags and the clash mark alone, if its parts touch no more
 abbrev pub StagesOnly : Placement → (fun : ℕ) → (address value tree : Plan) → Type 0

@@ -10,7 +10,7 @@ ghost use Rattle.state_space.specs.Locations.{is_state};
 ghost use Rattle.trap_model.specs.declared.width.Width.TheVariants.{Word};
 ghost use Rattle.state_layout.specs.Map.{IsCell, clash, state_cells};
 ghost use Rattle.staged_commit.specs.Code as code;
-ghost use Rattle.staged_commit.specs.Law.{Commits, IsCoded};
+ghost use Rattle.staged_commit.specs.Law.{Commits, GoesThrough, IsCoded};
 ghost use Rattle.staged_commit.specs.Regions.{in_commit};
 ghost use Rattle.staged_commit.specs.Weight.{unrolled_half};
 
@@ -109,7 +109,8 @@ fn commit_tree(alloc: Global, map: &Map) -> Result<Tree, AllocError>
     Ok(Tree::Seq(first, second))
 }
 
-/// What is staged becomes the state, unless the clash mark is set, without a loop.
+/// What is staged becomes the state, unless the clash mark is set, without a loop. From a RAM in which nothing is staged
+/// rightly the block is left behind its last word too, without a trap, and stores in the state alone.
 ///
 /// # Errors
 ///
@@ -119,6 +120,7 @@ pub fn commit_unrolled(alloc: Global, map: &Map) -> Result<Block, AllocError>
     requires weight { unrolled_half map.now.signatures ≤ 262144 }
     ensures plan { IfOk result (λ block. plan_of block ≡ code.commit_unrolled map.now) }
     ensures commits { IfOk result (λ block. Commits map.now (plan_of block)) }
+    ensures through { IfOk result (λ block. GoesThrough map.now (plan_of block)) }
     ensures touches { IfOk result (λ block. LinesTouchOnly (only_in (in_commit map.now)) (plan_of block)) }
     ensures len { IfOk result (λ block. len (plan_of block) ≤ unrolled_half map.now.signatures) }
     ensures full { IfOk result (λ block. full (plan_of block) ≤ unrolled_half map.now.signatures) }

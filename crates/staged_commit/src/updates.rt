@@ -4,10 +4,11 @@ ghost use Rattle.std.specs.Prelude.{◌≡◌, ◌≤◌, ◌<◌, ◌+◌, ◌^
 ghost use Rattle.rv_isa.specs.Operand.{IsImm12, IsImmB};
 ghost use Rattle.block_code.specs.Tree.{plan_of};
 ghost use Rattle.block_code.specs.Plan as plan;
-ghost use Rattle.block_code.specs.Plan.{entry, full, len};
+ghost use Rattle.block_code.specs.Plan.{full, len};
+ghost use Rattle.block_code.specs.Silent.{IsStorelessPlan};
 ghost use Rattle.mask_guard.specs.MaskLaw.{IsMaskable};
 ghost use Rattle.staged_commit.specs.Code as code;
-ghost use Rattle.staged_commit.specs.Law.{HasState, IsCoded, Stages, StagesOnly};
+ghost use Rattle.staged_commit.specs.Law.{HasState, IsCoded, Stages, StagesOnly, StagesThrough};
 
 use crate::registers::{
     first_register, flag_register, one_register, place_register, scratch_register, second_register,
@@ -170,7 +171,8 @@ fn stage_tree(
 
 /// Stages an update of a function: where `address` leaves the padded index of a location in x5, and `value` leaves that
 /// as it is and the value in x6, this value is staged for this location. Where another is staged there, the clash mark
-/// is set.
+/// is set. Whatever else they leave, the block is left behind its last word without a trap if they are, and stores
+/// staged values and flags of the function and the mark alone. Neither part stores, or has a loop.
 ///
 /// # Errors
 ///
@@ -184,11 +186,13 @@ pub fn stage_update(
 ) -> Result<Block, AllocError>
     requires coded { IsCoded map.now }
     requires state { HasState map.now.signatures fun }
+    requires address { IsStorelessPlan (plan_of address) }
+    requires value { IsStorelessPlan (plan_of value) }
     requires weight { len (plan_of address) + len (plan_of value) + 40 ≤ 262144 }
-    requires ticks { entry (plan_of address) + entry (plan_of value) + 40 ≤ 2 ^ 62 }
     ensures plan { IfOk result (λ block. plan_of block
         ≡ code.stage_update map.now fun (code.padded_at map.now fun) (plan_of address) (plan_of value)) }
     ensures stages { IfOk result (λ block. Stages map.now fun (plan_of address) (plan_of value) (plan_of block)) }
+    ensures through { IfOk result (λ block. StagesThrough map.now (plan_of address) (plan_of value) (plan_of block)) }
     ensures touches { IfOk result (λ block. StagesOnly map.now fun (plan_of address) (plan_of value) (plan_of block)) }
     ensures len { IfOk result (λ block. len (plan_of block) ≤ len (plan_of address) + len (plan_of value) + 40) }
     ensures full { IfOk result (λ block. full (plan_of block) ≤ full (plan_of address) + full (plan_of value) + 40) }

@@ -10,11 +10,11 @@ use Rattle.image_text.proofs.locations.put_function.Goals as goal
 pub count-tuple-end-requires : goal.count-tuple-end-requires
 count-tuple-end-requires c = rw c.as_slice-ranges.ensures (listed c.args.side c.args.map.now c.args.fun c.args.signature.now c.is_placed.ensures c.requires.here c.requires.held).many
 
-pub put_location-requires-clause-few : goal.put_location-requires-clause-few
-put_location-requires-clause-few c = rw c.as_slice-ranges.ensures (listed c.args.side c.args.map.now c.args.fun c.args.signature.now c.is_placed.ensures c.requires.here c.requires.held).few
+pub put_function_location-requires-clause-few : goal.put_function_location-requires-clause-few
+put_function_location-requires-clause-few c = rw c.as_slice-ranges.ensures (listed c.args.side c.args.map.now c.args.fun c.args.signature.now c.is_placed.ensures c.requires.here c.requires.held).few
 
-pub put_location-requires-clause-domains : goal.put_location-requires-clause-domains
-put_location-requires-clause-domains c = rw c.as_slice-ranges.ensures (listed c.args.side c.args.map.now c.args.fun c.args.signature.now c.is_placed.ensures c.requires.here c.requires.held).domains
+pub put_function_location-requires-clause-domains : goal.put_function_location-requires-clause-domains
+put_function_location-requires-clause-domains c = rw c.as_slice-ranges.ensures (listed c.args.side c.args.map.now c.args.fun c.args.signature.now c.is_placed.ensures c.requires.here c.requires.held).domains
 
 pub put_located-requires-clause-exists : goal.put_located-requires-clause-exists
 put_located-requires-clause-exists c = (listed c.args.side c.args.map.now c.args.fun c.args.signature.now c.is_placed.ensures c.requires.here c.requires.held).below
@@ -48,7 +48,7 @@ loop-tuple-preserved c =
     let location : Location = record { fun = c.args.fun; args = get_or ts tuple [] } in
     let here = known.each number tuple (c.loop-tuple.invariant.1 ∙ ap (λ n. n + tuple) c.requires.first) inside in
     let name : c.deref.result.now ≡ location_name program location =
-    c.deref.ensures.value ∙ c.in_ok-put_location.ensures.ok ∙ rw (c.clear.ensures.items, c.as_slice-ranges.ensures)
+    c.deref.ensures.value ∙ c.in_ok-put_function_location.ensures.ok ∙ rw (c.clear.ensures.items, c.as_slice-ranges.ensures)
     (named program map c.args.fun c.index-as_slice-fun.result c.as_slice-in-loop-tuple.result.now c.as_slice.result.now (get_or ts tuple []) c.requires.same known.below c.as_slice-in-loop-tuple.ensures c.as_slice.ensures c.index-as_slice-fun.is) in
     let wrote : c.put_located.new.out.items ≡ c.loop-tuple.out.items ++ ended (side_line side program map number location) =
     c.in_ok-put_located.ensures.ok ∙ ap (λ (l : Location). c.loop-tuple.out.items ++ ended (located_line side map number l c.deref.result.now)) here

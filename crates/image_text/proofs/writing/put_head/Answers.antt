@@ -2,7 +2,7 @@ use Rattle.std.specs.Io.{StartsWith}
 use Rattle.std.proofs.Transfers.{starts_with_of_append, starts_with_trans}
 use Rattle.update_sets.proofs.Restored.{on_ok}
 use Rattle.text_core.proofs.Begun.{begun_more}
-use Rattle.model_run.proofs.Arguments.{on_err}
+use Rattle.fault_script.proofs.Putting.{on_err}
 use Rattle.image_text.proofs.Written.{head-written}
 use Rattle.image_text.proofs.writing.put_head.Goals as goal
 

@@ -8,8 +8,8 @@ use Rattle.block_code.specs.Silent.{IsSilent, IsStorelessPlan, Respects}
 use Rattle.state_space.specs.{declared.signature.Signature.{Signature}, Sizes.{padded_count}}
 use Rattle.state_space.proofs.Padding.{read_at}
 use Rattle.instr_select.specs.Terms.{arguments_plan}
-use Rattle.instr_select.specs.Writing.{LeavesBelow, index_weight}
-use Rattle.instr_select.proofs.Blocks.{index-below, index-full, index-holds, index-in-range, index-kept, index-len, index-silent, index-storeless}
+use Rattle.instr_select.specs.Writing.{LeavesBelow, LeavesIndex, index_weight}
+use Rattle.instr_select.proofs.Blocks.{index-below, index-full, index-holds, index-in-range, index-kept, index-len, index-silent, index-storeless, leaves-index}
 use Rattle.instr_select.proofs.selecting.select_index.Goals as goal
 
 pub of-requires : goal.of-requires
@@ -22,6 +22,11 @@ returns-clause-plan c signature here =
     let same : found ≡ signature = cc in
     ap plan_of c.of.ensures ∙ c.in_ok-tree.ensures
     ∙ ap (λ rs. arguments_plan c.args.checked.now c.args.map.now c.args.tables rs c.args.args.now c.args.register) (c.as_slice-ranges.ensures ∙ ap (λ (s : Signature). s.args) same)
+
+pub returns-clause-value : goal.returns-clause-value
+returns-clause-value c signature here =
+    subst (LeavesIndex c.args.checked.now c.args.map.now c.args.tables signature.args c.args.args.now c.args.register) (sym (returns-clause-plan c signature here))
+    (leaves-index c.args.checked.now c.args.map.now c.args.tables c.args.args.now c.args.register c.requires.writable c.requires.ready c.requires.register c.args.fun signature here)
 
 pub returns-clause-inside : goal.returns-clause-inside
 returns-clause-inside c signature here held =

@@ -1,7 +1,7 @@
 use Rattle.std.proofs.Common.{Ok}
 use Rattle.std.proofs.lemmas.Result.{err_from_is_err_and}
 use Rattle.stab_cli.specs.CompileVerdict.{IsCompiled}
-use Rattle.stab_cli.specs.ImageText.{IsImageText}
+use Rattle.stab_cli.specs.ImageText.{IsImageText, IsReportOfStabilizing}
 use Rattle.stab_cli.proofs.Chains.{one_verdict, stage_ends}
 use Rattle.stab_cli.proofs.ModelJobs.{own_numbers}
 use Rattle.stab_cli.proofs.Needs.{source_in}
@@ -22,7 +22,8 @@ pub returns : goal.returns
 returns c =
     let bytes = c.args.bytes.now in
     let program = c.in_ok-program.program in
-    let one = c.in_ok-program.ensures.judged in (
+    let one = c.in_ok-program.ensures.judged in
+    let report : IsReportOfStabilizing program c.in_ok-image_report.field-0 = record { built = c.in_ok-program.built; image = c.in_ok-image_report.ensures; holds = c.in_ok-program.ensures.holds } in (
       one_verdict (IsCompiled bytes) (Ok program.source) one,
-      record { program = program.source; passed = one.0; numbers = program; resolves = own_numbers program; report = c.in_ok-image_report.ensures },
+      record { program = program.source; passed = one.0; numbers = program; resolves = own_numbers program; report = report },
     )

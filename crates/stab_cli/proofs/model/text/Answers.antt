@@ -1,6 +1,6 @@
 use Rattle.std.proofs.Common.{Ok}
 use Rattle.std.proofs.lemmas.Result.{err_from_is_err_and}
-use Rattle.job_text.specs.ModelLines.{said}
+use Rattle.job_text.specs.Jobs.{job_state}
 use Rattle.stab_cli.specs.ModelJob.{IsModelText, IsModelled}
 use Rattle.stab_cli.proofs.Chains.{one_verdict, stage_ends}
 use Rattle.stab_cli.proofs.ModelJobs.{own_numbers, source_in}
@@ -17,8 +17,8 @@ returns c =
     let program = c.in_ok-program.program in
     let found = c.in_ok-program.ensures in
     let text : IsModelText c.args.bytes.now c.in_ok-run_text.field-0 = record {
-      run = said c.in_ok-program.plan;
-      runs = found.run;
+      job = job_state c.in_ok-program.job;
+      read = found.job;
       program = program.source;
       passed = found.judged.0;
       numbers = program;

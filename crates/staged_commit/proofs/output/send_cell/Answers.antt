@@ -8,6 +8,7 @@ use Rattle.mask_guard.specs.Mask as mask
 use Rattle.state_layout.specs.Map.{access_at, range_at, value_offset}
 use Rattle.staged_commit.specs.Code as code
 use Rattle.staged_commit.proofs.Emitted.{grew-thrice, value-low}
+use Rattle.staged_commit.proofs.Ranged.{lo-fits}
 use Rattle.staged_commit.proofs.output.send_cell.Goals as goal
 
 pub load_fixed-requires : goal.load_fixed-requires
@@ -29,7 +30,7 @@ returns c =
     c.in_ok-decode_value.ensures.ok
     ∙ ap (λ r. c.append.new.self ++ mask.decode_value r c.range_at-range.result.size (to_z w32 (of_z w32 c.range_at-range.result.lo))) c.first_register-2.ensures
     ∙ ap (λ (r : Range). c.append.new.self ++ mask.decode_value code.first r.size (to_z w32 (of_z w32 r.lo))) c.range_at-range.ensures.range
-    ∙ ap (λ lo. c.append.new.self ++ mask.decode_value code.first range.size lo) (to_z-of_z w32 range.lo (c.requires.coded.fits c.args.cell.fun)) in
+    ∙ ap (λ lo. c.append.new.self ++ mask.decode_value code.first range.size lo) (to_z-of_z w32 range.lo (lo-fits m c.requires.coded c.args.cell.fun)) in
     on_ok_weaker c.append-2.result
     (λ third. grew-thrice c.args.line.now c.append.new.self c.decode_value.new.out c.append-2.new.self load decode (code.send_word c.args.port) first second (third ∙ ap (λ l. c.decode_value.new.out ++ l) c.sent.ensures))
     c.append-2.ensures.ok

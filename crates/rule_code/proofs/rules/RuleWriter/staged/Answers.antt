@@ -1,16 +1,9 @@
-use Rattle.std.proofs.Common.{sym, ap, ◌∙◌, arith}
+use Rattle.std.proofs.Common.{sym, ap, ◌∙◌}
 use Rattle.block_code.specs.Tree.{plan_of}
 use Rattle.state_layout.specs.Map.{args_of}
 use Rattle.instr_select.specs.Terms.{arguments_plan, term_plan}
-use Rattle.instr_select.proofs.Blocks.{entry-few}
 use Rattle.staged_commit.specs.Code.{first, padded_at, stage_update}
 use Rattle.rule_code.proofs.rules.RuleWriter.staged.Goals as goal
-
-pub stage_update-requires-clause-ticks : goal.stage_update-requires-clause-ticks
-stage_update-requires-clause-ticks c =
-    let address = entry-few (plan_of c.in_ok-address.address) c.in_ok-address.ensures.storeless in
-    let index = entry-few (plan_of c.in_ok-index.index) c.in_ok-index.ensures.storeless in
-    omega (arith, c.in_ok-address.ensures.full, c.in_ok-index.ensures.full, c.requires.codable.light)
 
 pub returns : goal.returns
 returns c =

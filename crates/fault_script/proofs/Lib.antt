@@ -1,0 +1,10 @@
+-- Lemmas on faults and on the text of a state.
+mod Digits
+mod Entries
+mod Passed
+pub mod Places
+pub mod Putting
+mod Scripts
+mod Searching
+pub mod Struck
+mod Widths

@@ -1,0 +1,10 @@
+pub mod FaultText
+pub mod Faults
+pub mod Judging
+pub mod Putting
+pub mod Script
+pub mod Standings
+pub mod StartValues
+pub mod StateText
+pub mod Stopping
+pub mod Widths
