@@ -15,40 +15,17 @@ import glob
 import os
 import random
 import re
-import subprocess
 import sys
 
 sys.dont_write_bytecode = True
 
 from hart import RAM, ROM_BYTES, Hart, Report
+from named import Differs, asked, enumerators
 from sources import Source, at_random, large
 
 HERE = os.path.dirname(os.path.abspath(__file__))
 EXAMPLES = os.path.join(HERE, "..", "..", "examples", "*.job")
 ROUNDS = 3
-
-
-class Differs(Exception):
-    """An image that does something else than it should, or a report that says something else."""
-
-
-def asked(stab, mode, job):
-    """The exit number and the text of the program."""
-    ended = subprocess.run([stab, mode], input=job.encode(), capture_output=True)
-    return ended.returncode, ended.stdout.decode("latin-1")
-
-
-def enumerators(canonical):
-    """For each function with values in a list domain their names, by the canonical text of the source."""
-    lists, names = {}, {}
-    for line in canonical.split("\n"):
-        found = re.fullmatch(r"domain (\w+) = \{ (.*) \}", line)
-        if found:
-            lists[found[1]] = found[2].split(" , ")
-        found = re.fullmatch(r"(?:controlled|input|output) (\w+)(?: \(.*\))? : (\w+)", line)
-        if found and found[2] in lists:
-            names[found[1]] = lists[found[2]]
-    return names
 
 
 def term_of(text):

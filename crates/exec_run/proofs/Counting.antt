@@ -152,57 +152,38 @@ module _ {size : ℕ} {rom : List ℕ} {ticks : ℕ} {script : List Timed} {read
       → Counted (all_shown rom ticks script readings start) before made out (event ∷ others) trapped took
   seen event e = subst (λ es. Counted (all_shown rom ticks script readings start) before made out es trapped took) (shown-is ∙ ap (λ x. x ∷ others) e) r.counted
 
+  running : {out' left' : List ℕ} {trapped' took' reading' : ℕ} (event : Event) → (tick rom reading hit).event ≡ event
+      → Counted (all_shown rom ticks script readings start) before (made + 1) out' others trapped' took' → left' ≡ left_by event left → reading' ≡ offered left'
+      → Running size rom ticks script readings start before (made + 1) out' faults' left' m' trapped' took' reading'
+  running event was counted e gives = record {
+    standing = next;
+    here = here-is;
+    unread = unread-is event was ∙ sym e;
+    counted = counted;
+    end = end-is;
+    next_reading = gives;
+    are_faults = are;
+  }
+
   pub running-took : ticked_as.took ≡ true → (left' : List ℕ) (reading' : ℕ) → left' ≡ drop 1 left → reading' ≡ offered left'
       → Running size rom ticks script readings start before (made + 1) out faults' left' m' trapped (took + 1) reading'
   running-took t left' reading' e gives =
       let was = took-event _ ticked_as shows t in
-      record {
-        standing = next;
-        here = here-is;
-        unread = unread-is (Took was.0) was.1 ∙ sym e;
-        counted = counted-took _ _ _ _ _ _ _ was.0 (seen (Took was.0) was.1);
-        end = end-is;
-        next_reading = gives;
-        are_faults = are;
-      }
+      running (Took was.0) was.1 (counted-took _ _ _ _ _ _ _ was.0 (seen (Took was.0) was.1)) e gives
 
   pub running-trapped : ticked_as.trapped ≡ true → Running size rom ticks script readings start before (made + 1) out faults' left m' (trapped + 1) took reading
   running-trapped t =
       let was = trapped-event _ ticked_as shows t in
-      record {
-        standing = next;
-        here = here-is;
-        unread = unread-is Trapped was;
-        counted = counted-trapped _ _ _ _ _ _ _ (seen Trapped was);
-        end = end-is;
-        next_reading = r.next_reading;
-        are_faults = are;
-      }
+      running Trapped was (counted-trapped _ _ _ _ _ _ _ (seen Trapped was)) refl r.next_reading
 
   pub running-sent : (port word : ℕ) → ticked_as.sent ≡ Some (record { 0 = port; 1 = word })
       → Running size rom ticks script readings start before (made + 1) (out ++ ended (send_line (made + 1) port word)) faults' left m' trapped took reading
   running-sent port word t =
       let was = sent-event _ ticked_as port word shows t in
-      record {
-        standing = next;
-        here = here-is;
-        unread = unread-is (Sent port word) was;
-        counted = counted-sent _ _ _ _ _ _ _ port word (seen (Sent port word) was);
-        end = end-is;
-        next_reading = r.next_reading;
-        are_faults = are;
-      }
+      running (Sent port word) was (counted-sent _ _ _ _ _ _ _ port word (seen (Sent port word) was)) refl r.next_reading
 
   pub running-quiet : ticked_as.took ≡ false → ticked_as.trapped ≡ false → ticked_as.sent ≡ None
       → Running size rom ticks script readings start before (made + 1) out faults' left m' trapped took reading
   running-quiet a b t =
       let was = quiet-event _ ticked_as shows a b t in
-      record {
-        standing = next;
-        here = here-is;
-        unread = unread-is Quiet was;
-        counted = counted-quiet _ _ _ _ _ _ _ (seen Quiet was);
-        end = end-is;
-        next_reading = r.next_reading;
-        are_faults = are;
-      }
+      running Quiet was (counted-quiet _ _ _ _ _ _ _ (seen Quiet was)) refl r.next_reading

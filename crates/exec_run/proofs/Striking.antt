@@ -1,12 +1,13 @@
 -- The faults of one time, one after another.
-use Rattle.std.proofs.Common.{◌≡◌, ℕ, Bool, true, false, ◌==◌, List, [], ◌∷◌, ◌++◌, refl, ◌∙◌}
+use Rattle.std.proofs.Common.{◌≡◌, ℕ, Bool, true, false, ◌==◌, List, [], ◌∷◌, ◌++◌, refl, ap, ◌∙◌}
 use Rattle.std.specs.Prelude.{if◌then◌else◌}
 use Rattle.std.specs.List.{AllByRecursion}
 use Rattle.fault_script.specs.Faults.{AreFaultsFrom, IsFault}
 use Rattle.fault_script.specs.Standings.{Standing, faulted, reached}
 use Rattle.fault_script.specs.declared.event.Event.{Event}
-use Rattle.fault_script.specs.declared.event.Event.TheVariants.{Tick, Reg, Pc, Ram, SetRam}
+use Rattle.fault_script.specs.declared.event.Event.TheVariants.{Tick, Reg}
 use Rattle.fault_script.specs.declared.event.Timed.{Timed}
+use Rattle.fault_script.proofs.Struck.{happened-fault}
 use Rattle.exec_run.specs.ExecText.{due, shown_by}
 use Rattle.exec_run.specs.Striking.{struck_all}
 
@@ -17,20 +18,11 @@ pub faults-alone : (size time : ℕ) (faults : List Timed) → AreFaultsFrom siz
 faults-alone size time [] h = tt
 faults-alone size time (fault ∷ faults) h = (h.1, faults-alone size fault.time faults h.2)
 
--- a fault is no tick
-reached-fault : (size : ℕ) (rom : List ℕ) (event : Event) (s : Standing) → IsFault size event → (events : List Event) → reached rom (event ∷ events) s ≡ reached rom events (faulted event s)
-reached-fault size rom Tick s h events = absurd h
-reached-fault size rom (Reg r mask) s h events = refl
-reached-fault size rom (Pc mask) s h events = refl
-reached-fault size rom (Ram offset mask) s h events = refl
-reached-fault size rom (SetRam offset word) s h events = refl
-
+-- a fault is no tick, so that it shows nothing
 shown-fault : (size : ℕ) (rom : List ℕ) (event : Event) (s : Standing) → IsFault size event → (events : List Event) → shown_by rom (event ∷ events) s ≡ shown_by rom events (faulted event s)
 shown-fault size rom Tick s h events = absurd h
 shown-fault size rom (Reg r mask) s h events = refl
-shown-fault size rom (Pc mask) s h events = refl
-shown-fault size rom (Ram offset mask) s h events = refl
-shown-fault size rom (SetRam offset word) s h events = refl
+shown-fault size rom _ s h events = refl
 
 -- a play stands here behind these faults, and goes on as from there
 pub record StruckBy (rom : List ℕ) (events : List Event) (s : Standing) : Type 0 where
@@ -48,7 +40,7 @@ one-more size rom event events s h r = record {
   standing = r.standing;
   hart = r.hart;
   feed = r.feed;
-  reaches = λ others. reached-fault size rom event s h (events ++ others) ∙ r.reaches others;
+  reaches = λ others. ap (reached rom (events ++ others)) (happened-fault rom size event s h) ∙ r.reaches others;
   shows = λ others. shown-fault size rom event s h (events ++ others) ∙ r.shows others;
 }
 

@@ -7,6 +7,7 @@ use Rattle.rv_machine.specs.Hart.{HartState}
 use Rattle.rv_machine.specs.Memory.{number_at}
 use Rattle.rv_machine.specs.Run.{offered, ports_taken}
 use Rattle.rv_machine.specs.Tick.{Event as Shown, Quiet, Took, Sent, Trapped, tick}
+pub use Rattle.fault_script.specs.Runs.{due, later, run_events}
 use Rattle.fault_script.specs.Standings.{Standing, faulted, reached, started, ticked}
 use Rattle.fault_script.specs.declared.event.Event.{Event}
 use Rattle.fault_script.specs.declared.event.Event.TheVariants.{Tick}
@@ -69,20 +70,6 @@ run_lines ticks seen start end =
     send_lines 1 seen
     ++ (summary_line ticks (traps seen) (length (ports_taken seen))
     ∷ (pc_line end.pc ∷ (register_lines 0 end.regs ++ ram_lines (length end.ram / 4) 0 start.ram end.ram)))
-
--- the faults of a time that are next, and those behind them
-abbrev pub due : ℕ → List Timed → List Event
-due time [] = []
-due time (fault ∷ faults) = if fault.time == time then fault.event ∷ due time faults else []
-
-abbrev pub later : ℕ → List Timed → List Timed
-later time [] = []
-later time (fault ∷ faults) = if fault.time == time then later time faults else fault ∷ faults
-
--- What happens in so many ticks from this time on: at each time its faults in order, and then the next tick. Faults that are due at the end, or later, don't come about.
-abbrev pub run_events : ℕ → ℕ → List Timed → List Event
-run_events zero time faults = []
-run_events (suc ticks) time faults = due time faults ++ Tick ∷ run_events ticks (time + 1) (later time faults)
 
 -- what the ticks among these events show
 abbrev pub shown_by : List ℕ → List Event → Standing → List Shown

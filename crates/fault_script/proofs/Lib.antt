@@ -5,6 +5,7 @@ mod Passed
 pub mod Places
 pub mod Putting
 mod Scripts
-mod Searching
+mod Spelled
 pub mod Struck
+mod Tables
 mod Widths

@@ -1,17 +1,14 @@
--- The location with a number, function after function, and its arguments.
-use Rattle.std.proofs.Common.{◌≡◌, ℕ, zero, suc, ◌+◌, ◌-◌, ◌/◌, ◌%◌, ◌<◌, ◌≤◌, ℤ, pos, ◌+ℤ◌, true, false, List, [], ◌∷◌, ◌++◌, length, map, drop, get_or, refl, sym, ap, ◌∙◌, subst, arith, length-append}
-use Rattle.std.specs.Prelude.{if◌then◌else◌}
-use Rattle.std.specs.List.{AllByRecursion}
-use Rattle.std.proofs.lemmas.List.{drop_more, get_or-map, get_or_append_left, length-map}
-use Rattle.std.proofs.Math.Seq.{get_or-append_right}
+-- The arguments of locations.
+use Rattle.std.proofs.Common.{◌≡◌, ℕ, zero, suc, ◌+◌, ◌/◌, ◌%◌, ◌<◌, ℤ, pos, ◌+ℤ◌, List, [], ◌∷◌, ◌++◌, length, drop, get_or, None, Some, refl, sym, ap, ◌∙◌, append_assoc, arith}
+use Rattle.std.specs.Prelude.{slice_get}
+use Rattle.std.proofs.lemmas.List.{drop_more}
+use Rattle.std.proofs.lemmas.Option.{get_or_from_slice_get}
 use Rattle.asm_names.specs.declared.program.Domain.{Domain}
+use Rattle.asm_names.specs.declared.program.Fun.{Fun}
 use Rattle.state_space.specs.declared.signature.Range.{Range}
-use Rattle.state_space.specs.declared.signature.Signature.{Signature}
-use Rattle.state_space.specs.Locations.{Location, is_state, located, location_at, no_location, tuples}
-use Rattle.state_space.specs.Sizes.{IsSized}
+use Rattle.state_space.specs.Locations.{tuples}
 use Rattle.state_space.proofs.Widening.{Digits}
-use Rattle.fault_script.specs.Putting.{IsPlace, no_signature, signature_at}
-use Rattle.fault_script.specs.StateText.{argument_texts, domain_of, parted, value_text}
+use Rattle.fault_script.specs.StateText.{argument_texts, closing, domain_of, location_text, parted, value_text}
 
 -- ---- arguments
 no-argument : (domains : List Domain) (numbers : List ℕ) (opening tuple : ℕ) → parted opening (argument_texts domains numbers (get_or ([] ∷ []) tuple [])) ≡ []
@@ -40,57 +37,42 @@ arguments-of domains opening first numbers others x {all} {range} {rest} {tuple}
     ∙ ap (λ args. parted opening (argument_texts domains (first ∷ others) args)) d.tuple
     ∙ ap (λ v. (opening ∷ value_text (domain_of domains first) v) ++ parted 44 (argument_texts domains others (get_or (tuples rest) (tuple % length (tuples rest)) []))) (sym is)
 
--- ---- functions
-module _ (signatures : List Signature) (i n : ℕ) (below : i < length signatures) where
-  abbrev own : Signature → List Location
-  own signature = map (λ args. record { fun = i; args = args }) (tuples signature.args)
+inside : (args : List ℤ) (index : ℕ) (v : ℤ) → slice_get args index ≡ Some v → index < length args
+inside [] index v is = absurd cc
+inside (x ∷ args) zero v is = omega arith
+inside (x ∷ args) (suc index) v is = let h = inside args index v is in omega arith
 
-  abbrev later : List Location
-  later = located is_state (i + 1) (drop (i + 1) signatures)
+dropped : (args : List ℤ) (index : ℕ) (v : ℤ) → slice_get args index ≡ Some v → drop index args ≡ v ∷ drop (index + 1) args
+dropped args index v is = drop_more args index v (inside args index v is) ∙ ap (λ x. x ∷ drop (index + 1) args) (get_or_from_slice_get args index v v is)
 
-  opened : located is_state i (drop i signatures) ≡ (if is_state (signature_at signatures i).kind then own (signature_at signatures i) else []) ++ later
-  opened = ap (located is_state i) (drop_more signatures i no_signature below)
+none-left : (args : List ℤ) (index : ℕ) → slice_get args index ≡ None → drop index args ≡ []
+none-left [] zero none = refl
+none-left [] (suc index) none = refl
+none-left (x ∷ args) zero none = absurd cc
+none-left (x ∷ args) (suc index) none = none-left args index none
 
-  pub opened-held : is_state (signature_at signatures i).kind ≡ true → located is_state i (drop i signatures) ≡ own (signature_at signatures i) ++ later
-  opened-held held = opened ∙ ap (λ b. (if b then own (signature_at signatures i) else []) ++ later) held
+without : (domains : List Domain) (opening : ℕ) (numbers : List ℕ) → parted opening (argument_texts domains numbers []) ≡ []
+without domains opening [] = refl
+without domains opening (number ∷ numbers) = refl
 
-  pub opened-other : is_state (signature_at signatures i).kind ≡ false → located is_state i (drop i signatures) ≡ later
-  opened-other other = opened ∙ ap (λ b. (if b then own (signature_at signatures i) else []) ++ later) other
+-- the texts of a location's arguments from one on, which has this value
+pub arguments-at : (domains : List Domain) (opening first : ℕ) (numbers others : List ℕ) (args : List ℤ) (index : ℕ) (v x : ℤ) → numbers ≡ first ∷ others → Some v ≡ slice_get args index → x ≡ v
+    → parted opening (argument_texts domains numbers (drop index args))
+    ≡ (opening ∷ []) ++ (value_text (domain_of domains first) x ++ parted 44 (argument_texts domains others (drop (index + 1) args)))
+arguments-at domains opening first numbers others args index v x e found is =
+    ap (λ ns. parted opening (argument_texts domains ns (drop index args))) e
+    ∙ ap (λ vs. parted opening (argument_texts domains (first ∷ others) vs)) (dropped args index v (sym found))
+    ∙ ap (λ y. (opening ∷ value_text (domain_of domains first) y) ++ parted 44 (argument_texts domains others (drop (index + 1) args))) (sym is)
 
-  long : length (own (signature_at signatures i)) ≡ length (tuples (signature_at signatures i).args)
-  long = length-map (tuples (signature_at signatures i).args) (λ args. record { fun = i; args = args })
+-- no argument is left
+pub no-argument-at : (domains : List Domain) (opening : ℕ) (numbers : List ℕ) (args : List ℤ) (index : ℕ) → None ≡ slice_get args index
+    → parted opening (argument_texts domains numbers (drop index args)) ≡ []
+no-argument-at domains opening numbers args index none = ap (λ vs. parted opening (argument_texts domains numbers vs)) (none-left args index (sym none)) ∙ without domains opening numbers
 
-  -- it is one of this function's
-  pub found-here : is_state (signature_at signatures i).kind ≡ true → n < length (tuples (signature_at signatures i).args) → (place : ℕ)
-      → get_or (located is_state i (drop i signatures)) n no_location ≡ location_at signatures place → IsPlace signatures place i n
-  found-here held within place same =
-      let is : location_at signatures place ≡ record { fun = i; args = get_or (tuples (signature_at signatures i).args) n [] } =
-      sym same ∙ ap (λ ls. get_or ls n no_location) (opened-held held)
-      ∙ get_or_append_left (own (signature_at signatures i)) later no_location n (omega (arith, long))
-      ∙ get_or-map (λ args. record { fun = i; args = args }) (tuples (signature_at signatures i).args) n [] no_location within in
-      record { below = below; within = within; is_fun = ap (λ (l : Location). l.fun) is; is_args = ap (λ (l : Location). l.args) is }
-
-  -- it is a later function's
-  pub found-later : is_state (signature_at signatures i).kind ≡ true → length (tuples (signature_at signatures i).args) ≤ n → (place : ℕ)
-      → n < length (located is_state i (drop i signatures)) → get_or (located is_state i (drop i signatures)) n no_location ≡ location_at signatures place
-      → (n - length (tuples (signature_at signatures i).args) < length later) × (get_or later (n - length (tuples (signature_at signatures i).args)) no_location ≡ location_at signatures place)
-  found-later held past place within same =
-      let whole : length (located is_state i (drop i signatures)) ≡ length (own (signature_at signatures i)) + length later =
-      ap length (opened-held held) ∙ length-append (own (signature_at signatures i)) later in (
-        omega (arith, long, whole),
-        ap (λ k. get_or later (n - k) no_location) (sym long)
-            ∙ sym (get_or-append_right (own (signature_at signatures i)) later n no_location (omega (arith, long)))
-            ∙ ap (λ ls. get_or ls n no_location) (sym (opened-held held)) ∙ same,
-      )
-
-  pub found-other : is_state (signature_at signatures i).kind ≡ false → (place : ℕ)
-      → n < length (located is_state i (drop i signatures)) → get_or (located is_state i (drop i signatures)) n no_location ≡ location_at signatures place
-      → (n < length later) × (get_or later n no_location ≡ location_at signatures place)
-  found-other other place within same =
-      (subst (λ ls. n < length ls) (opened-other other) within, ap (λ ls. get_or ls n no_location) (sym (opened-other other)) ∙ same)
-
--- each function has few arguments, and their domains are small
-pub sized-at : (signatures : List Signature) (fun : ℕ) → AllByRecursion IsSized signatures → fun < length signatures → IsSized (signature_at signatures fun)
-sized-at [] fun all below = absurd (omega arith)
-sized-at (s ∷ ss) zero all below = all.0
-sized-at (s ∷ ss) (suc fun) all below = sized-at ss fun all.1 (omega arith)
+-- the parts in which a location is written
+pub location-parts : (domains : List Domain) (fun : Fun) (numbers name : List ℕ) (args : List ℤ) → name ≡ fun.name → numbers ≡ fun.args
+    → location_text domains fun args ≡ (name ++ parted 40 (argument_texts domains numbers args)) ++ closing fun.args
+location-parts domains fun numbers name args named of =
+    ap (λ n. n ++ (parted 40 (argument_texts domains fun.args args) ++ closing fun.args)) (sym named)
+    ∙ ap (λ ns. name ++ (parted 40 (argument_texts domains ns args) ++ closing fun.args)) (sym of)
+    ∙ sym (append_assoc name (parted 40 (argument_texts domains numbers args)) (closing fun.args))

@@ -7,9 +7,11 @@ use Rattle.text_core.specs.Numbers.{number_of}
 use Rattle.fault_script.specs.declared.event.Event.{Event}
 use Rattle.fault_script.specs.declared.event.Event.TheVariants.{Ram, SetRam}
 use Rattle.fault_script.specs.declared.event.Timed.{Timed}
+use Rattle.fault_script.specs.declared.script_end.ScriptFault.{ScriptFault}
+use Rattle.fault_script.specs.declared.script_end.ScriptFault.TheVariants as script_faults
 use Rattle.fault_script.specs.Judging.{in_order, judged_as, refused}
 use Rattle.fault_script.specs.Faults.{AreFaults, AreFaultsFrom, IsFault, IsWordPlace}
-use Rattle.fault_script.specs.Script.{Said, ScriptFault, added, is_place, is_register, is_time, judged, put_first, said, said_at, said_pc, said_place, said_register, said_word, script_fields, script_from, script_of}
+use Rattle.fault_script.specs.Script.{FaultyLine, Said, added, is_place, is_register, is_time, judged, put_first, said, said_at, said_pc, said_place, said_register, said_word, script_fields, script_from, script_of}
 use Rattle.trap_model.specs.Map.{lies_in, ram_base}
 use Rattle.fault_script.proofs.Digits.{hexadecimal-below}
 
@@ -87,14 +89,14 @@ at-said ram t (key ∷ number ∷ []) = said-if ram t (bytes_eq key (codes "pc")
 at-said ram t (key ∷ place ∷ number ∷ []) = place-said ram t key place number
 at-said ram t (key ∷ place ∷ number ∷ x ∷ xs) = tt
 
-abbrev late : Said → Bool → Result Timed ℕ
-late s b = if b then Err 413 else Ok (record { time = s.time; event = s.event })
+abbrev late : Said → Bool → Result Timed ScriptFault
+late s b = if b then Err script_faults.Order else Ok (record { time = s.time; event = s.event })
 
-abbrev told : ℕ → Said → Bool → Result Timed ScriptFault
-told last s b = if not b then Err (record { code = 412; line = 0 }) else (if nat_lt s.time last then Err (record { code = 413; line = 0 }) else Ok (record { time = s.time; event = s.event }))
+abbrev told : ℕ → Said → Bool → Result Timed FaultyLine
+told last s b = if not b then Err (record { fault = script_faults.Range; line = 0 }) else (if nat_lt s.time last then Err (record { fault = script_faults.Order; line = 0 }) else Ok (record { time = s.time; event = s.event }))
 
-abbrev ended : Said → Bool → Result Timed ScriptFault
-ended s b = if b then Err (record { code = 413; line = 0 }) else Ok (record { time = s.time; event = s.event })
+abbrev ended : Said → Bool → Result Timed FaultyLine
+ended s b = if b then Err (record { fault = script_faults.Order; line = 0 }) else Ok (record { time = s.time; event = s.event })
 
 in-time : (s : Said) (b : Bool) → refused {A = Timed} (ended s b) ≡ late s b
 in-time s true = refl
@@ -103,7 +105,7 @@ in-time s false = refl
 same-time : (last t : ℕ) (s : Said) → s.time ≡ t → late s (nat_lt s.time last) ≡ in_order last t (Ok s.event)
 same-time last t s h = ap (λ n. in_order last n (Ok s.event)) h
 
-ranged : (last t : ℕ) (s : Said) (b : Bool) → s.time ≡ t → refused {A = Timed} (told last s b) ≡ in_order last t (if b then Ok s.event else Err 412)
+ranged : (last t : ℕ) (s : Said) (b : Bool) → s.time ≡ t → refused {A = Timed} (told last s b) ≡ in_order last t (if b then Ok s.event else Err script_faults.Range)
 ranged last t s true h = in-time s (nat_lt s.time last) ∙ same-time last t s h
 ranged last t s false h = refl
 
@@ -121,11 +123,11 @@ judged-at ram last time text first rest e f =
 
 -- ---- the faults of a script
 -- what is judged to be right is a fault, no earlier than the one before
-abbrev ordered_at : ℕ → Said → Bool → Result Timed ScriptFault
-ordered_at line s late = if late then Err (record { code = 413; line = line }) else Ok (record { time = s.time; event = s.event })
+abbrev ordered_at : ℕ → Said → Bool → Result Timed FaultyLine
+ordered_at line s late = if late then Err (record { fault = script_faults.Order; line = line }) else Ok (record { time = s.time; event = s.event })
 
-abbrev ranged_at : ℕ → ℕ → Said → Bool → Result Timed ScriptFault
-ranged_at last line s fits = if not fits then Err (record { code = 412; line = line }) else ordered_at line s (nat_lt s.time last)
+abbrev ranged_at : ℕ → ℕ → Said → Bool → Result Timed FaultyLine
+ranged_at last line s fits = if not fits then Err (record { fault = script_faults.Range; line = line }) else ordered_at line s (nat_lt s.time last)
 
 in-order : (ram last line : ℕ) (s : Said) (fault : Timed) (late : Bool) → nat_lt s.time last ≡ late → IsFault ram s.event → ordered_at line s late ≡ Ok fault
     → (last ≤ fault.time) × IsFault ram fault.event
@@ -151,7 +153,7 @@ said-said ram (time ∷ rest) = by-time (number_of time)
     by-time None = (0, tt)
     by-time (Some t) = (t, at-said ram t rest)
 
-put-parts : (fault : Timed) (later : Result (List Timed) ScriptFault) (faults : List Timed) → put_first fault later ≡ Ok faults → (rest : List Timed) × (later ≡ Ok rest) × (fault ∷ rest ≡ faults)
+put-parts : (fault : Timed) (later : Result (List Timed) FaultyLine) (faults : List Timed) → put_first fault later ≡ Ok faults → (rest : List Timed) × (later ≡ Ok rest) × (fault ∷ rest ≡ faults)
 put-parts fault (Ok rest) faults e = (rest, refl, cc)
 put-parts fault (Err x) faults e = absurd (cc)
 
@@ -163,7 +165,7 @@ faults-from ram number last (line ∷ lines) faults e =
     Later : Type 0
     Later = (from : ℕ) (rest : List Timed) → script_from ram (number + 1) lines from ≡ Ok rest → AreFaultsFrom ram from rest
 
-    by-judged : Later → (text : List (List ℕ)) (r : Result Timed ScriptFault) → judged last number (said ram text) ≡ r → added (script_from ram (number + 1) lines) last (Some r) ≡ Ok faults
+    by-judged : Later → (text : List (List ℕ)) (r : Result Timed FaultyLine) → judged last number (said ram text) ≡ r → added (script_from ram (number + 1) lines) last (Some r) ≡ Ok faults
         → AreFaultsFrom ram last faults
     by-judged later text (Err x) j e = absurd (cc)
     by-judged later text (Ok fault) j e =

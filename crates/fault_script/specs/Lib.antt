@@ -1,7 +1,10 @@
 pub mod FaultText
 pub mod Faults
+pub mod Glossaries
 pub mod Judging
+pub mod Listing
 pub mod Putting
+pub mod Runs
 pub mod Script
 pub mod Standings
 pub mod StartValues

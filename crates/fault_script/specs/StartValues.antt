@@ -5,10 +5,13 @@ use Rattle.asm_names.specs.declared.program.Domain.{Domain}
 use Rattle.asm_names.specs.declared.program.Resolved.{Resolved}
 use Rattle.asm_ranges.specs.Values.{State, fun_of}
 use Rattle.asm_tree.specs.Names.{is_name}
+use Rattle.state_space.specs.Codomains.{lowest}
 use Rattle.state_space.specs.Locations.{location_at, signatures_of, state_locations}
 use Rattle.text_core.specs.Numbers.{number_of}
-use Rattle.fault_script.specs.Script.{ScriptFault, script_fields}
+use Rattle.fault_script.specs.Script.{FaultyLine, script_fields}
 use Rattle.fault_script.specs.StateText.{domain_of, location_name}
+use Rattle.fault_script.specs.declared.script_end.ScriptFault.{ScriptFault}
+use Rattle.fault_script.specs.declared.script_end.ScriptFault.TheVariants as script_faults
 use Rattle.fault_script.specs.declared.value_reading.Given.{Given}
 
 -- ---- a value
@@ -22,24 +25,24 @@ abbrev pub number_spelled : List ℕ → Option ℤ
 number_spelled [] = None
 number_spelled (c ∷ cs) = if c == 45 then option_and_then below_zero (number_of cs) else option_map (λ n. pos n) (number_of (c ∷ cs))
 
-abbrev pub index_or : Option ℕ → Result ℤ ℕ
-index_or None = Err 412
+abbrev pub index_or : Option ℕ → Result ℤ ScriptFault
+index_or None = Err script_faults.Range
 index_or (Some index) = Ok (pos index)
 
--- the number of the enumerator with this name, or the code that there is none
-abbrev pub named : List (List ℕ) → List ℕ → Result ℤ ℕ
+-- the number of the enumerator with this name, or the fault that there is none
+abbrev pub named : List (List ℕ) → List ℕ → Result ℤ ScriptFault
 named names text = index_or (position_from (bytes_eq text) 0 names)
 
 -- the value is one of the numbers of a domain
 abbrev pub is_number : Domain → ℤ → Bool
 is_number domain value = (length domain.items == 0) && (not (int_lt value domain.lo) && int_lt value (domain.lo +ℤ pos domain.size))
 
-abbrev pub numbered : Domain → Option ℤ → Result ℤ ℕ
-numbered domain None = Err 411
-numbered domain (Some value) = if is_number domain value then Ok value else Err 412
+abbrev pub numbered : Domain → Option ℤ → Result ℤ ScriptFault
+numbered domain None = Err script_faults.Form
+numbered domain (Some value) = if is_number domain value then Ok value else Err script_faults.Range
 
--- the value of a domain that a text spells by a name or in decimal; or the code 411 for another form, 412 for a value that the domain lacks
-abbrev pub value_given : Domain → List ℕ → Result ℤ ℕ
+-- the value of a domain that a text spells by a name or in decimal; or the fault of another form, or of a value that the domain lacks
+abbrev pub value_given : Domain → List ℕ → Result ℤ ScriptFault
 value_given domain text = if is_name text then named domain.items text else numbered domain (number_spelled text)
 
 -- ---- a location
@@ -54,26 +57,26 @@ codomain_at program place = domain_of program.domains (fun_of program (location_
 
 -- ---- lines
 
-abbrev pub valued : ℕ → ℕ → Result ℤ ℕ → Result Given ScriptFault
+abbrev pub valued : ℕ → ℕ → Result ℤ ScriptFault → Result Given FaultyLine
 valued line place (Ok value) = Ok (record { place = place; value = value })
-valued line place (Err code) = Err (record { code = code; line = line })
+valued line place (Err fault) = Err (record { fault = fault; line = line })
 
-abbrev pub given_at : Resolved → ℕ → List ℕ → Option ℕ → Result Given ScriptFault
-given_at program line value None = Err (record { code = 411; line = line })
+abbrev pub given_at : Resolved → ℕ → List ℕ → Option ℕ → Result Given FaultyLine
+given_at program line value None = Err (record { fault = script_faults.Form; line = line })
 given_at program line value (Some place) = valued line place (value_given (codomain_at program place) value)
 
--- what a line says behind its first word: another form, or no such location, is 411, a value that the codomain lacks is 412
-abbrev pub given : Resolved → ℕ → List (List ℕ) → Result Given ScriptFault
+-- what a line says behind its first word: another form, or no such location, is the one fault, a value that the codomain lacks the other
+abbrev pub given : Resolved → ℕ → List (List ℕ) → Result Given FaultyLine
 given program line (location ∷ value ∷ []) = given_at program line value (place_named program location)
-given program line _ = Err (record { code = 411; line = line })
+given program line _ = Err (record { fault = script_faults.Form; line = line })
 
 -- a state, and the first bad line where there is one
 pub record Started : Type 0 where
   pub state : State
-  pub fault : Option ScriptFault
+  pub fault : Option FaultyLine
 
 -- what a line does to a state, before those behind it
-abbrev pub set_by : (State → Started) → State → Option (Result Given ScriptFault) → Started
+abbrev pub set_by : (State → Started) → State → Option (Result Given FaultyLine) → Started
 set_by later state None = later state
 set_by later state (Some (Ok g)) = later (slice_set state g.place g.value)
 set_by later state (Some (Err e)) = record { state = state; fault = Some e }
@@ -83,3 +86,7 @@ abbrev pub values_from : Resolved → ℕ → List (List ℕ) → State → Star
 values_from program number [] state = record { state = state; fault = None }
 values_from program number (line ∷ lines) state =
     set_by (values_from program (number + 1) lines) state (option_map (given program number) (script_fields (codes "value") line))
+
+-- the state from which a program starts: the least one, where the lines, the first of which has this number, have put their values in order
+abbrev pub first_state : Resolved → ℕ → List (List ℕ) → Started
+first_state program first lines = values_from program first lines (lowest (signatures_of program))

@@ -1,20 +1,20 @@
 //! The texts of values and of locations.
 
-ghost use Rattle.std.specs.Prelude.{◌≡◌, ◌<◌, ◌≤◌, ◌+◌, ◌++◌, [], length, slice_index_or, option_copied, OnOk, OnErr, IsOk};
+ghost use Rattle.std.specs.Prelude.{◌≡◌, ◌<◌, ◌≤◌, ◌+◌, ◌++◌, [], drop, length, slice_index_or, option_copied, OnOk, OnErr, IsOk};
 ghost use Rattle.std.specs.Io.{StartsWith};
 ghost use Rattle.std.specs.List.{AllByRecursion};
 ghost use Rattle.asm_ranges.specs.Values.{fun_of};
 ghost use Rattle.state_space.specs.Locations.{location_at, signatures_of, state_locations, tuples};
 ghost use Rattle.state_space.specs.Sizes.{IsRange};
 ghost use Rattle.text_core.specs.Room.{room_of};
-ghost use Rattle.fault_script.specs.Putting.{IsPlace, IsPut};
+ghost use Rattle.fault_script.specs.Putting.{IsPut};
 ghost use Rattle.fault_script.specs.StateText as spec;
 ghost use Rattle.fault_script.specs.StateText.{location_name};
 
 use asm_names::{Domain, Fun, Resolved};
 use asm_tree::Name;
 use sqlite_items::at;
-use state_space::{Range, Side, Space, count};
+use state_space::{Range, Space, count};
 use std::alloc::AllocError;
 use text_core::{put_bytes, put_dec};
 
@@ -84,7 +84,7 @@ fn put_closing(out: &mut Vec<u8>, function: &Fun) -> Result<(), AllocError>
 }
 
 /// Appends a location of a function, or a beginning of it, as [`put_function_location`] spells it.
-pub(crate) fn put_spelled(
+fn put_spelled(
     out: &mut Vec<u8>,
     domains: &[Domain],
     function: &Fun,
@@ -124,54 +124,45 @@ pub fn put_function_location(
     put_spelled(out, domains, function, ranges, tuple)
 }
 
-/// A location: its function, the domains of the arguments, and the number of the arguments' tuple.
-#[derive(Clone, Copy)]
-pub(crate) struct Found<'a> {
-    pub function: &'a Fun,
-    pub ranges: &'a [Range],
-    pub tuple: u64,
-}
-
-/// The function of a state location, and the number of the arguments' tuple.
-fn place_of(space: &Space, place: u32) -> (usize, u64)
-    requires { place < length (state_locations space.now) }
-    ensures place { IsPlace space.now place result.0 result.1 }
-{
-    let signatures = space.signatures();
-    let mut left = u64::from(place);
-    for fun in 0..signatures.len() {
-        let signature = &signatures[fun];
-        if Side::State.holds(signature.kind) {
-            let own = count(signature.args.as_slice());
-            if left < own {
-                return (fun, left);
-            }
-            left -= own;
-        }
-    }
-    unreachable!()
-}
-
-/// The state location with a number.
-pub(crate) fn find<'a>(resolved: &'a Resolved, space: &'a Space, place: u32) -> Found<'a>
+/// The function of the state location with a number.
+pub(crate) fn function_at<'a>(resolved: &'a Resolved, space: &Space, place: u32) -> &'a Fun
     requires spaces { space.now ≡ signatures_of resolved.now }
     requires within { place < length (state_locations space.now) }
-    ensures function { result.function.now ≡ fun_of resolved.now (location_at space.now place).fun }
-    ensures few { length result.ranges.now ≤ 3 }
-    ensures domains { AllByRecursion IsRange result.ranges.now }
-    ensures tuple { result.tuple < length (tuples result.ranges.now) }
-    ensures args { slice_index_or (tuples result.ranges.now) result.tuple [] ≡ (location_at space.now place).args }
+    ensures function { result.now ≡ fun_of resolved.now (location_at space.now place).fun }
+    ensures few { length result.now.args ≤ 3 }
 {
-    let (fun, tuple) = place_of(space, place);
-    Found {
-        function: &resolved.funs.as_slice()[fun],
-        ranges: space.signatures()[fun].args.as_slice(),
-        tuple,
-    }
+    resolved.comes_from_faultless();
+    &resolved.funs.as_slice()[space.function_at(place)]
+}
+
+/// Appends the arguments of a state location from the one with the number `index` on, whose domains have these numbers: the
+/// first behind `opening`, each other behind a comma.
+fn put_arguments_at(
+    out: &mut Vec<u8>,
+    domains: &[Domain],
+    numbers: &[u32],
+    space: &Space,
+    place: u32,
+    index: usize,
+    opening: u8,
+) -> Result<(), AllocError>
+    requires within { place < length (state_locations space.now) }
+    requires few { index + length numbers.now ≤ 3 }
+    ensures { IsPut result (spec.parted opening (spec.argument_texts domains.now numbers.now (drop index (location_at space.now place).args))) out.old out.new }
+{
+    let Some((first, others)) = numbers.split_first() else {
+        return put_bytes(out, b"");
+    };
+    let Some(value) = space.argument_at(place, index) else {
+        return put_bytes(out, b"");
+    };
+    put_bytes(out, &[opening])?;
+    put_value(out, domains, *first, value)?;
+    put_arguments_at(out, domains, others, space, place, index + 1, b',')
 }
 
 /// Appends a state location, or a beginning of it.
-fn put_place(
+pub(crate) fn put_place(
     resolved: &Resolved,
     space: &Space,
     place: u32,
@@ -181,14 +172,19 @@ fn put_place(
     requires within { place < length (state_locations space.now) }
     ensures { IsPut result (location_name resolved.now (location_at space.now place)) out.old out.new }
 {
-    let found = find(resolved, space, place);
-    put_spelled(
+    let domains = resolved.domains.as_slice();
+    let function = function_at(resolved, space, place);
+    put_bytes(out, function.name.bytes())?;
+    put_arguments_at(
         out,
-        resolved.domains.as_slice(),
-        found.function,
-        found.ranges,
-        found.tuple,
-    )
+        domains,
+        function.args.as_slice(),
+        space,
+        place,
+        0,
+        b'(',
+    )?;
+    put_closing(out, function)
 }
 
 /// Appends the state location with a number: its function's name, and its arguments in parentheses where it has any. Takes

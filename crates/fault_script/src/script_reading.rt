@@ -9,97 +9,67 @@ ghost use Rattle.fault_script.specs.declared.event.Event.TheVariants as events;
 ghost use Rattle.fault_script.specs.Faults.{AreFaults};
 ghost use Rattle.fault_script.specs.Judging.{behind, event_of, in_order, IsBad, judged_as, refused};
 ghost use Rattle.fault_script.specs.Script as spec;
-ghost use Rattle.fault_script.specs.declared.script_reading.ScriptEnd.TheVariants.{NoMemory};
 
 use crate::event::{Event, Timed};
+use crate::script_end::{ScriptEnd, ScriptFault};
 use rv_isa::Reg;
 use sqlite_items::Items;
-use std::alloc::{AllocError, Global};
+use std::alloc::Global;
 use text_core::{Lines, is_passed, next_field, read_dec, read_hex};
-use thiserror::Error;
 use trap_model::RAM_BASE;
 
 /// The greatest time that a script may name.
 const GREATEST_TIME: u64 = 10_000_000;
 
-/// Another form.
-const FORM: u32 = 411;
-
-/// A number out of range.
-const RANGE: u32 = 412;
-
-/// A time below that of the line before.
-const ORDER: u32 = 413;
-
-/// Why a script was not read.
-#[derive(Clone, Copy, Debug, PartialEq, Eq, Error)]
-pub enum ScriptEnd {
-    /// A line is bad.
-    #[error("line {line} is refused with {code}")]
-    Fault {
-        /// What is wrong: 411, 412 or 413.
-        code: u32,
-        /// The line's number.
-        line: u32,
-    },
-    /// No memory was left for what is read.
-    #[error("out of memory")]
-    NoMemory,
-}
-
-impl From<AllocError> for ScriptEnd {
-    ghost from_gives = { λ _ end. end ≡ NoMemory };
-
-    fn from(_: AllocError) -> Self {
-        ScriptEnd::NoMemory
-    }
-}
-
 /// The event, where all numbers of a line are in range.
-fn ranged(fits: bool, event: Event) -> Result<Event, u32>
+fn ranged(fits: bool, event: Event) -> Result<Event, ScriptFault>
     ensures { result ≡ event_of fits event }
 {
-    if fits { Ok(event) } else { Err(RANGE) }
+    if fits {
+        Ok(event)
+    } else {
+        Err(ScriptFault::Range)
+    }
 }
 
 /// What `pc H` says.
 #[tactic(auto, unfolding(crate::specs::Script::said_pc))]
-fn said_pc(time: u64, mask: &[u8]) -> Result<Event, u32>
+fn said_pc(time: u64, mask: &[u8]) -> Result<Event, ScriptFault>
     ensures early { IfOk result (λ it. time ≤ 10000000) }
     ensures said { result ≡ judged_as (spec.said_pc time mask.now) }
 {
     match read_hex(mask) {
         Some(mask) => ranged(time <= GREATEST_TIME, Event::Pc { mask }),
-        None => Err(FORM),
+        None => Err(ScriptFault::Form),
     }
 }
 
 /// What `reg R H` says, by its numbers.
-fn register(time: u64, number: u64, mask: u32) -> Result<Event, u32>
+fn register(time: u64, number: u64, mask: u32) -> Result<Event, ScriptFault>
     ensures early { IfOk result (λ it. time ≤ 10000000) }
     ensures said { result ≡ judged_as (Some (record { time = time; event = events.Reg number mask; fits = spec.is_time time && spec.is_register number })) }
 {
     if GREATEST_TIME < time || number < 1 || 31 < number {
-        return Err(RANGE);
+        return Err(ScriptFault::Range);
     }
     match Reg::new(number as u32) {
         Some(reg) => Ok(Event::Reg { reg, mask }),
-        None => Err(RANGE),
+        None => Err(ScriptFault::Range),
     }
 }
 
 /// What `reg R H` says.
 #[tactic(auto, unfolding(crate::specs::Script::said_register))]
-fn said_register(time: u64, number: &[u8], mask: &[u8]) -> Result<Event, u32>
+fn said_register(time: u64, number: &[u8], mask: &[u8]) -> Result<Event, ScriptFault>
     ensures early { IfOk result (λ it. time ≤ 10000000) }
     ensures said { result ≡ judged_as (spec.said_register time number.now mask.now) }
 {
     match read_dec(number) {
         Some(number) => match read_hex(mask) {
             Some(mask) => register(time, number, mask),
-            None => Err(FORM),
+            None => Err(ScriptFault::Form),
         },
-        None => Err(FORM),
+        None => Err(ScriptFault::Form),
     }
 }
 
@@ -114,7 +84,7 @@ fn is_place(ram: u32, address: u32) -> bool
 
 /// What `ram H H` says.
 #[tactic(auto, unfolding(crate::specs::Script::said_word))]
-fn said_ram(ram: u32, time: u64, address: &[u8], mask: &[u8]) -> Result<Event, u32>
+fn said_ram(ram: u32, time: u64, address: &[u8], mask: &[u8]) -> Result<Event, ScriptFault>
     ensures early { IfOk result (λ it. time ≤ 10000000) }
     ensures said { result ≡ judged_as (spec.said_word ram time (λ o m. Ram o m) address.now mask.now) }
 {
@@ -122,22 +92,22 @@ fn said_ram(ram: u32, time: u64, address: &[u8], mask: &[u8]) -> Result<Event, u
         Some(address) => match read_hex(mask) {
             Some(mask) => {
                 if GREATEST_TIME < time || !is_place(ram, address) {
-                    return Err(RANGE);
+                    return Err(ScriptFault::Range);
                 }
                 Ok(Event::Ram {
                     offset: address - RAM_BASE,
                     mask,
                 })
             }
-            None => Err(FORM),
+            None => Err(ScriptFault::Form),
         },
-        None => Err(FORM),
+        None => Err(ScriptFault::Form),
     }
 }
 
 /// What `set H H` says.
 #[tactic(auto, unfolding(crate::specs::Script::said_word))]
-fn said_set(ram: u32, time: u64, address: &[u8], word: &[u8]) -> Result<Event, u32>
+fn said_set(ram: u32, time: u64, address: &[u8], word: &[u8]) -> Result<Event, ScriptFault>
     ensures early { IfOk result (λ it. time ≤ 10000000) }
     ensures said { result ≡ judged_as (spec.said_word ram time (λ o w. SetRam o w) address.now word.now) }
 {
@@ -145,22 +115,28 @@ fn said_set(ram: u32, time: u64, address: &[u8], word: &[u8]) -> Result<Event, u
         Some(address) => match read_hex(word) {
             Some(word) => {
                 if GREATEST_TIME < time || !is_place(ram, address) {
-                    return Err(RANGE);
+                    return Err(ScriptFault::Range);
                 }
                 Ok(Event::SetRam {
                     offset: address - RAM_BASE,
                     word,
                 })
             }
-            None => Err(FORM),
+            None => Err(ScriptFault::Form),
         },
-        None => Err(FORM),
+        None => Err(ScriptFault::Form),
     }
 }
 
 /// What a word, a place and a number say.
 #[tactic(auto, unfolding(crate::specs::Script::said_place))]
-fn said_place(ram: u32, time: u64, key: &[u8], place: &[u8], number: &[u8]) -> Result<Event, u32>
+fn said_place(
+    ram: u32,
+    time: u64,
+    key: &[u8],
+    place: &[u8],
+    number: &[u8],
+) -> Result<Event, ScriptFault>
     ensures early { IfOk result (λ it. time ≤ 10000000) }
     ensures said { result ≡ judged_as (spec.said_place ram time key.now place.now number.now) }
 {
@@ -171,50 +147,50 @@ fn said_place(ram: u32, time: u64, key: &[u8], place: &[u8], number: &[u8]) -> R
     } else if key == b"set".as_slice() {
         said_set(ram, time, place, number)
     } else {
-        Err(FORM)
+        Err(ScriptFault::Form)
     }
 }
 
 /// What a word and a number say.
-fn said_number(time: u64, key: &[u8], number: &[u8]) -> Result<Event, u32>
+fn said_number(time: u64, key: &[u8], number: &[u8]) -> Result<Event, ScriptFault>
     ensures early { IfOk result (λ it. time ≤ 10000000) }
     ensures said { result ≡ judged_as (if bytes_eq key.now (codes "pc") then spec.said_pc time number.now else None) }
 {
     if key == b"pc".as_slice() {
         said_pc(time, number)
     } else {
-        Err(FORM)
+        Err(ScriptFault::Form)
     }
 }
 
 /// What follows the time of a line.
-fn said_at(ram: u32, time: u64, text: &[u8]) -> Result<Event, u32>
+fn said_at(ram: u32, time: u64, text: &[u8]) -> Result<Event, ScriptFault>
     ensures early { IfOk result (λ it. time ≤ 10000000) }
     ensures said { result ≡ judged_as (spec.said_at ram time (fields text.now)) }
 {
     let Some((key, rest)) = next_field(text) else {
-        return Err(FORM);
+        return Err(ScriptFault::Form);
     };
     let Some((place, rest)) = next_field(rest) else {
-        return Err(FORM);
+        return Err(ScriptFault::Form);
     };
     let Some((number, rest)) = next_field(rest) else {
         return said_number(time, key, place);
     };
     match next_field(rest) {
         None => said_place(ram, time, key, place, number),
-        Some(_) => Err(FORM),
+        Some(_) => Err(ScriptFault::Form),
     }
 }
 
 /// An event with its time, behind a line with the time `last`.
-fn in_order(last: u32, time: u64, event: Result<Event, u32>) -> Result<Timed, u32>
+fn in_order(last: u32, time: u64, event: Result<Event, ScriptFault>) -> Result<Timed, ScriptFault>
     requires { IfOk event (λ it. time ≤ 10000000) }
     ensures { result ≡ in_order last time event }
 {
     let event = event?;
     if time < u64::from(last) {
-        return Err(ORDER);
+        return Err(ScriptFault::Order);
     }
     Ok(Timed {
         time: time as u32,
@@ -223,15 +199,15 @@ fn in_order(last: u32, time: u64, event: Result<Event, u32>) -> Result<Timed, u3
 }
 
 /// What follows the word `at` of a line, behind a line with the time `last`.
-fn judged(ram: u32, last: u32, text: &[u8]) -> Result<Timed, u32>
+fn judged(ram: u32, last: u32, text: &[u8]) -> Result<Timed, ScriptFault>
     ensures { result ≡ refused (spec.judged last 0 (spec.said ram (fields text.now))) }
 {
     let Some((time, rest)) = next_field(text) else {
-        return Err(FORM);
+        return Err(ScriptFault::Form);
     };
     match read_dec(time) {
         Some(time) => in_order(last, time, said_at(ram, time, rest)),
-        None => Err(FORM),
+        None => Err(ScriptFault::Form),
     }
 }
 
@@ -272,8 +248,11 @@ fn read_lines(
                         return Err(ScriptEnd::NoMemory);
                     }
                 }
-                Err(code) => {
-                    return Err(ScriptEnd::Fault { code, line: number });
+                Err(fault) => {
+                    return Err(ScriptEnd::Fault {
+                        fault,
+                        line: number,
+                    });
                 }
             }
         }

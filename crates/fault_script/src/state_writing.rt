@@ -8,7 +8,7 @@ ghost use Rattle.fault_script.specs.Putting.{IsPut};
 ghost use Rattle.fault_script.specs.StateText as spec;
 ghost use Rattle.fault_script.specs.StateText.{state_text};
 
-use crate::location_writing::{find, put_spelled, put_value};
+use crate::location_writing::{function_at, put_place, put_value};
 use asm_names::Resolved;
 use state_space::{Space, State};
 use std::alloc::AllocError;
@@ -26,12 +26,11 @@ fn put_entry(
     requires within { place < length (state_locations space.now) }
     ensures { IsPut result (32 ∷ spec.entry_text resolved.now.domains (fun_of resolved.now (location_at space.now place).fun) (location_at space.now place).args value) out.old out.new }
 {
-    let domains = resolved.domains.as_slice();
-    let found = find(resolved, space, place);
+    let function = function_at(resolved, space, place);
     put_bytes(out, b" ")?;
-    put_spelled(out, domains, found.function, found.ranges, found.tuple)?;
+    put_place(resolved, space, place, out)?;
     put_bytes(out, b"=")?;
-    put_value(out, domains, found.function.codomain, value)
+    put_value(out, resolved.domains.as_slice(), function.codomain, value)
 }
 
 /// Appends the entries of a state, or a beginning of them.

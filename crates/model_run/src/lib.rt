@@ -3,6 +3,8 @@
 
 mod run;
 mod run_writing;
+mod start;
 
 pub use run::model_text;
 pub use run_writing::legal_text;
+pub use start::{Start, start_of};

@@ -12,10 +12,11 @@ use Rattle.round_spec.specs.Round.{Compiled}
 use Rattle.rule_code.specs.CompileEnds.{AnswersNeeds}
 use Rattle.rule_code.specs.declared.compiling.CompileEnd.{CompileEnd}
 use Rattle.rule_code.specs.declared.compiling.CompileEnd.TheVariants.{Needs}
-use Rattle.stab_cli.specs.CompileVerdict.{IsBuildable, machine_needs, need_refusal, needs_found}
+use Rattle.stab_cli.specs.CompileVerdict.{IsBuildable, machine_needs, needs_found}
 use Rattle.stab_cli.specs.Stages.{IsOne}
 use Rattle.stab_cli.specs.declared.machine_sizes.TheConstants.{RAM_BYTES, ROM_BYTES}
 use Rattle.stab_cli.specs.declared.refusal.Refusal.{Refusal}
+use Rattle.stab_cli.specs.declared.refusal.Refusal.TheVariants.{TooMuch}
 
 -- the source of what the code finds
 abbrev pub source_in : Resolved × Compiled → Parts
@@ -40,8 +41,8 @@ module _ (numbers : Resolved) (resolves : Resolves numbers.source numbers) where
   is_buildable : (has : Numbers) → machine_needs numbers ≡ Ok has → IsOne (IsBuildable numbers.source) (Ok numbers.source)
   is_buildable has is = one_built (Ok numbers.source) (rw is refl)
 
-  needs_too_much : (end : NeedEnd) → machine_needs numbers ≡ Err end → IsOne (IsBuildable numbers.source) (Err (need_refusal end))
-  needs_too_much end is = one_built (Err (need_refusal end)) (rw is refl)
+  needs_too_much : (end : NeedEnd) → machine_needs numbers ≡ Err end → IsOne (IsBuildable numbers.source) (Err (TooMuch end))
+  needs_too_much end is = one_built (Err (TooMuch end)) (rw is refl)
 
   -- what is compiled is buildable
   pub built_is_buildable : (answer : Result Numbers NeedEnd) → machine_needs numbers ≡ answer → (built : Compiled) → AnswersNeeds answer (Ok built) → IsOne (IsBuildable numbers.source) (Ok numbers.source)
@@ -50,6 +51,6 @@ module _ (numbers : Resolved) (resolves : Resolves numbers.source numbers) where
 
   -- what isn't for its needs is refused for them
   pub needs_refuse : (answer : Result Numbers NeedEnd) → machine_needs numbers ≡ answer → (found : CompileEnd) (end : NeedEnd) → found ≡ Needs end
-      → AnswersNeeds answer (Err found) → IsOne (IsBuildable numbers.source) (Err (need_refusal end))
+      → AnswersNeeds answer (Err found) → IsOne (IsBuildable numbers.source) (Err (TooMuch end))
   needs_refuse (Ok has) is found end same answers = absurd (cc)
   needs_refuse (Err need) is found end same answers = let e : need ≡ end = cc in needs_too_much end (is ∙ ap Err e)

@@ -7,10 +7,10 @@ use Rattle.asm_tree.specs.Programs.{Parts}
 use Rattle.bound_count.specs.Numbers.{numbers_of}
 use Rattle.bound_count.specs.declared.shape.Shape.TheVariants.{Unrolled}
 use Rattle.fault_script.specs.Judging.{IsBad}
-use Rattle.fault_script.specs.Script.{ScriptFault, script_of}
+use Rattle.fault_script.specs.Script.{FaultyLine, script_of}
 use Rattle.fault_script.specs.declared.event.Timed.{Timed}
-use Rattle.fault_script.specs.declared.script_reading.ScriptEnd.{ScriptEnd}
-use Rattle.fault_script.specs.declared.script_reading.ScriptEnd.TheVariants.{Fault, NoMemory}
+use Rattle.fault_script.specs.declared.script_end.ScriptEnd.{ScriptEnd}
+use Rattle.fault_script.specs.declared.script_end.ScriptEnd.TheVariants.{Fault, NoMemory}
 use Rattle.job_text.specs.Jobs.{JobState}
 use Rattle.state_layout.specs.declared.layout.Layout.TheVariants.{Words}
 use Rattle.text_core.specs.Lines.{lines}
@@ -18,7 +18,6 @@ use Rattle.trace_decode.specs.Budget.{budget_of, most}
 use Rattle.stab_cli.specs.BuiltJob.{text_of}
 use Rattle.stab_cli.specs.ExecJob.{with_faults}
 use Rattle.stab_cli.specs.JobFaults.{job_faults, script_end, script_found}
-use Rattle.stab_cli.specs.Refusal.{of_count}
 use Rattle.round_spec.specs.Round.{Compiled}
 use Rattle.stab_cli.specs.RunJob.{IsTrialOf, Trial, trial_found}
 use Rattle.stab_cli.specs.Stages.{Is, IsOne, Settles}
@@ -26,11 +25,11 @@ use Rattle.stab_cli.specs.declared.job_end.JobEnd.{JobEnd}
 use Rattle.stab_cli.specs.declared.job_end.JobEnd.TheVariants as ends
 use Rattle.stab_cli.specs.declared.refusal.Refusal.{Refusal}
 use Rattle.stab_cli.specs.declared.machine_sizes.TheConstants.{RAM_BYTES}
-use Rattle.stab_cli.specs.declared.refusal.TheConstants.{TOO_MANY_TICKS}
+use Rattle.stab_cli.specs.declared.refusal.Refusal.TheVariants.{TooManyTicks}
 use Rattle.stab_cli.proofs.Chains.{is_one}
 
 module _ (bytes : List ℕ) (job : JobState) where
-  abbrev said : Result (List Timed) ScriptFault
+  abbrev said : Result (List Timed) FaultyLine
   said = script_of RAM_BYTES job.script.line (lines (text_of bytes job.script))
 
   -- the faults that are read are those of the job
@@ -41,7 +40,7 @@ module _ (bytes : List ℕ) (job : JobState) where
   -- the first bad line refuses the job
   pub faults_refused : (end : ScriptEnd) → IsBad said end → Settles (Is (job_faults bytes job)) (Err (script_end end))
   unfolding job_faults
-  faults_refused (Fault code line) is = is_one (job_faults bytes job) _ (sym (ap script_found is))
+  faults_refused (Fault fault line) is = is_one (job_faults bytes job) _ (sym (ap script_found is))
   faults_refused NoMemory is = tt
 
 -- a program in numbers has one list of needs, and so one budget
@@ -65,7 +64,7 @@ module _ (numbers : Resolved) (resolves : Resolves numbers.source numbers) (faul
   pub is_within : ticks ≤ most → IsOne (IsTrialOf rounds faults numbers.source) (Ok (record { program = numbers.source; faults = faults }))
   is_within few = one_trial _ (let is : nat_le ticks most ≡ true = le-leb _ _ few in rw is refl)
 
-  pub takes_too_long : most < ticks → IsOne (IsTrialOf rounds faults numbers.source) (Err (of_count TOO_MANY_TICKS (min ticks (2 ^ 62))))
+  pub takes_too_long : most < ticks → IsOne (IsTrialOf rounds faults numbers.source) (Err (TooManyTicks (min ticks (2 ^ 62))))
   takes_too_long many = one_trial _ (let is : nat_le ticks most ≡ false = lt-leb _ _ many in rw is refl)
 
 -- a program, and the faults that come to its image

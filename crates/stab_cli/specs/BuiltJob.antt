@@ -1,6 +1,6 @@
 -- The job that bytes are for a mode, and what of jobs isn't built.
-use Rattle.std.specs.Prelude.{ℕ, ◌+◌, ◌-◌, ◌≤◌, ◌==◌, ◌&&◌, not, Bool, true, false, List, [], ◌∷◌, length, take, drop, Result, Ok, Err, bytes_eq, codes, if◌then◌else◌}
-use Rattle.job_text.specs.JobFaults.{FaultyLine, code_of}
+use Rattle.std.specs.Prelude.{ℕ, ◌+◌, ◌-◌, ◌≤◌, ◌==◌, ◌&&◌, Bool, true, false, List, length, take, drop, Result, Ok, Err, if◌then◌else◌}
+use Rattle.job_text.specs.JobFaults.{FaultyLine}
 use Rattle.job_text.specs.Jobs.{JobState, job_of}
 use Rattle.job_text.specs.declared.fault.JobEnd.{JobEnd as ReadingEnd}
 use Rattle.job_text.specs.declared.fault.JobEnd.TheVariants as reading_ends
@@ -10,13 +10,11 @@ use Rattle.job_text.specs.declared.said.Layout.{Layout}
 use Rattle.job_text.specs.declared.said.Layout.TheVariants.{Words, Packed}
 use Rattle.job_text.specs.declared.said.Shape.{Shape}
 use Rattle.job_text.specs.declared.said.Shape.TheVariants.{Unrolled, Looped}
-use Rattle.stab_cli.specs.Refusal.{at_line, not_built}
 use Rattle.stab_cli.specs.declared.job_end.JobEnd.{JobEnd}
 use Rattle.stab_cli.specs.declared.job_end.JobEnd.TheVariants.{Refused, NoMemory}
 use Rattle.stab_cli.specs.declared.machine_sizes.TheConstants.{REVISION}
 use Rattle.stab_cli.specs.declared.refusal.Refusal.{Refusal}
-use Rattle.text_core.specs.Fields.{fields}
-use Rattle.text_core.specs.Lines.{lines}
+use Rattle.stab_cli.specs.declared.refusal.Refusal.TheVariants.{BadJob, NotBuilt}
 
 -- the bytes of a part of a job
 abbrev pub text_of : List ℕ → Part → List ℕ
@@ -28,16 +26,6 @@ pub record HasPlace (size : ℕ) (text : List ℕ) (line : ℕ) : Type 0 where
   pub some : 1 ≤ line
   pub few : line ≤ size + 1
 
--- a line gives a location its first value, by its fields
-unfoldable pub gives_value : List (List ℕ) → Bool
-gives_value [] = false
-gives_value (word ∷ rest) = bytes_eq word (codes "value")
-
--- one of these lines does
-abbrev pub has_values : List (List ℕ) → Bool
-has_values [] = false
-has_values (line ∷ lines) = if gives_value (fields line) then true else has_values lines
-
 -- the shape and the layout that are built
 abbrev pub is_unrolled : Shape → Bool
 is_unrolled Unrolled = true
@@ -47,25 +35,23 @@ abbrev pub lies_in_words : Layout → Bool
 lies_in_words Words = true
 lies_in_words Packed = false
 
--- all that a job asks for is built: code without loops, a word of RAM for each location, the first revision of the machine, and no first values
-abbrev pub is_built : List ℕ → JobState → Bool
-is_built bytes job =
-    is_unrolled job.shape
-    && (lies_in_words job.layout && ((job.revision == REVISION) && not (has_values (lines (text_of bytes job.script)))))
+-- all that a job asks for is built: code without loops, a word of RAM for each location, and the first revision of the machine
+abbrev pub is_built : JobState → Bool
+is_built job = is_unrolled job.shape && (lies_in_words job.layout && (job.revision == REVISION))
 
 -- what an end of reading is here: the first line at fault refuses the job
 abbrev pub reading_end : ReadingEnd → JobEnd
-reading_end (reading_ends.Fault fault line) = Refused (at_line (code_of fault) line)
+reading_end (reading_ends.Fault fault line) = Refused (BadJob fault line)
 reading_end reading_ends.NoMemory = NoMemory
 
 -- a job that was read, where it is built
-abbrev pub if_built : List ℕ → Result JobState FaultyLine → Result JobState Refusal
-if_built bytes (Err faulty) = Err (at_line (code_of faulty.fault) faulty.line)
-if_built bytes (Ok job) = if is_built bytes job then Ok job else Err not_built
+abbrev pub if_built : Result JobState FaultyLine → Result JobState Refusal
+if_built (Err faulty) = Err (BadJob faulty.fault faulty.line)
+if_built (Ok job) = if is_built job then Ok job else Err NotBuilt
 
 -- the job that bytes are for a mode; or its refusal, by its first line at fault or for what isn't built
 unfoldable pub built_job : Mode → List ℕ → Result JobState Refusal
-built_job which bytes = if_built bytes (job_of which bytes)
+built_job which bytes = if_built (job_of which bytes)
 
 -- what is found of a job
 abbrev pub of_job : {A : Type 0} → (JobState → Result A JobEnd) → Result JobState Refusal → Result A JobEnd

@@ -12,13 +12,12 @@ use Rattle.state_layout.specs.declared.layout.Layout.TheVariants.{Words}
 use Rattle.stab_cli.specs.BuiltJob.{built_job}
 use Rattle.stab_cli.specs.CompileVerdict.{IsBuiltSource}
 use Rattle.stab_cli.specs.JobFaults.{job_faults}
-use Rattle.stab_cli.specs.Refusal.{of_count}
 use Rattle.stab_cli.specs.Stages.{Is, IsVerdictBy, Then}
 use Rattle.stab_cli.specs.Verdict.{Verdict}
 use Rattle.stab_cli.specs.declared.outcome.WriteEnd.{WriteEnd}
 use Rattle.stab_cli.specs.declared.outcome.WriteEnd.TheVariants as write_ends
 use Rattle.stab_cli.specs.declared.refusal.Refusal.{Refusal}
-use Rattle.stab_cli.specs.declared.refusal.TheConstants.{TOO_MANY_TICKS}
+use Rattle.stab_cli.specs.declared.refusal.Refusal.TheVariants.{TooManyTicks}
 use Rattle.trace_decode.specs.Budget.{budget_of, most}
 use Rattle.trace_decode.specs.declared.tracing.TraceEnd.{TraceEnd}
 use Rattle.trace_decode.specs.declared.tracing.TraceEnd.TheVariants as trace_ends
@@ -30,7 +29,7 @@ pub record Trial : Type 0 where
 
 -- a play that takes so many ticks at most may be made, or takes too many
 abbrev pub trial_found : Trial → ℕ → Result Trial Refusal
-trial_found trial ticks = if nat_le ticks most then Ok trial else Err (of_count TOO_MANY_TICKS (min ticks (2 ^ 62)))
+trial_found trial ticks = if nat_le ticks most then Ok trial else Err (TooManyTicks (min ticks (2 ^ 62)))
 
 -- The play of a program's image, with so many rounds behind the last fault, is over within the ticks that a trace may take.
 pub record IsWithinBudget (rounds : ℕ) (trial : Trial) (found : Result Trial Refusal) : Type 0 where

@@ -3,18 +3,15 @@
 ghost use Rattle.std.specs.Prelude.{◌≡◌, ◌+◌, ◌≤◌, IfOk, length};
 ghost use Rattle.job_text.specs.{Jobs.{job_state}, Keys.{runs_hart}};
 ghost use Rattle.job_text.specs.Ranges.{HasParts, IsFit, IsInside, IsStartOf};
-ghost use Rattle.stab_cli.specs.BuiltJob.{HasPlace, built_job, gives_value, has_values, is_built, is_unrolled, lies_in_words, text_of};
+ghost use Rattle.stab_cli.specs.BuiltJob.{HasPlace, built_job, is_built, is_unrolled, lies_in_words, text_of};
 ghost use Rattle.stab_cli.specs.Stages.{Is, SettlesAs};
-ghost use Rattle.text_core.specs.Fields.{fields};
-ghost use Rattle.text_core.specs.Lines.{lines};
 
 use crate::job_end::JobEnd;
 use crate::machine_sizes::REVISION;
-use crate::refusal::{Refusal, not_built};
+use crate::refusal::Refusal;
 use crate::top_call::MAX_INPUT;
 use job_text::{Job, Layout, Mode, Part, Shape, read_job};
 use std::alloc::Global;
-use text_core::{next_field, next_line};
 
 /// A section of a job: the bytes of its lines, and the number of the first of them in the job, from 1.
 #[derive(Clone, Copy, Debug)]
@@ -32,7 +29,7 @@ impl From<job_text::JobEnd> for JobEnd {
     fn from(end: job_text::JobEnd) -> Self {
         match end {
             job_text::JobEnd::Fault { fault, line } => {
-                JobEnd::Refused(Refusal::at_line(fault.code(), line))
+                JobEnd::Refused(Refusal::BadJob { fault, line })
             }
             job_text::JobEnd::NoMemory => JobEnd::NoMemory,
         }
@@ -51,31 +48,6 @@ pub fn section_at(bytes: &[u8], part: Part) -> Section
         text: &bytes[part.from..part.to],
         first_line: part.line,
     }
-}
-
-/// Whether a line gives a location its first value.
-#[tactic(auto, unfolding(crate::specs::BuiltJob::gives_value))]
-fn gives_value(line: &[u8]) -> bool
-    ensures { result ≡ gives_value (fields line.now) }
-{
-    match next_field(line) {
-        None => false,
-        Some((word, _)) => word == b"value".as_slice(),
-    }
-}
-
-/// Whether one of the lines of a text gives a location its first value.
-fn has_values(text: &[u8]) -> bool
-    ensures { result ≡ has_values (lines text.now) }
-{
-    let mut rest = text;
-    'seeking: while let Some((line, next)) = next_line(rest) {
-        if gives_value(line) {
-            return true;
-        }
-        rest = next;
-    }
-    false
 }
 
 /// Whether the code of this shape is built.
@@ -99,15 +71,10 @@ fn lies_in_words(layout: Layout) -> bool
 }
 
 /// Whether all that a job asks for is built.
-fn is_built(bytes: &[u8], job: &Job) -> bool
-    requires size { length bytes.now ≤ MAX_INPUT }
-    requires inside { HasParts (length bytes.now) job.now.source job.now.rom job.now.script }
-    ensures { result ≡ is_built bytes.now (job_state job.now) }
+fn is_built(job: &Job) -> bool
+    ensures { result ≡ is_built (job_state job.now) }
 {
-    is_unrolled(job.shape)
-        && lies_in_words(job.layout)
-        && job.revision == REVISION
-        && !has_values(section_at(bytes, job.script).text)
+    is_unrolled(job.shape) && lies_in_words(job.layout) && job.revision == REVISION
 }
 
 /// The job that the bytes are for a mode, where all that it asks for is built. Refused by its first line at fault.
@@ -120,7 +87,7 @@ pub fn built_job(alloc: Global, mode: Mode, bytes: &[u8]) -> Result<Job, JobEnd>
 {
     match read_job(alloc, mode, bytes) {
         Err(end) => Err(JobEnd::from(end)),
-        Ok(job) if is_built(bytes, &job) => Ok(job),
-        Ok(_) => Err(JobEnd::Refused(not_built())),
+        Ok(job) if is_built(&job) => Ok(job),
+        Ok(_) => Err(JobEnd::Refused(Refusal::NotBuilt)),
     }
 }

@@ -24,7 +24,9 @@ impl From<ScriptEnd> for JobEnd {
 
     fn from(end: ScriptEnd) -> Self {
         match end {
-            ScriptEnd::Fault { code, line } => JobEnd::Refused(Refusal::at_line(code, line)),
+            ScriptEnd::Fault { fault, line } => {
+                JobEnd::Refused(Refusal::BadScript { fault, line })
+            }
             ScriptEnd::NoMemory => JobEnd::NoMemory,
         }
     }

@@ -12,13 +12,13 @@ ghost use Rattle.stab_cli.specs.RunText.{IsPlayable, IsPlayed, IsRightRun, Recov
 ghost use Rattle.stab_cli.specs.Stages.{Judges, SettlesAs};
 ghost use Rattle.stab_cli.specs.declared.outcome.WriteEnd.TheVariants.{NoMemory, WriteFault};
 
-use crate::built_job::{built_job, section_at};
+use crate::built_job::built_job;
 use crate::compile::{Image, built_source, image_report};
 use crate::faults::faults;
 use crate::job_end::JobEnd;
 use crate::machine_sizes::{RAM_BYTES, ROM_BYTES};
 use crate::outcome::WriteEnd;
-use crate::refusal::{Refusal, TOO_MANY_TICKS};
+use crate::refusal::Refusal;
 use crate::top_call::MAX_INPUT;
 use asm_ranges::Checked;
 use fault_script::Timed;
@@ -75,7 +75,7 @@ fn within_budget(
 {
     match budget(&image.needs(), faults, rounds) {
         Ok(_) => Ok(()),
-        Err(TooMany(ticks)) => Err(JobEnd::Refused(Refusal::of_count(TOO_MANY_TICKS, ticks))),
+        Err(TooMany(ticks)) => Err(JobEnd::Refused(Refusal::TooManyTicks { ticks })),
     }
 }
 
@@ -102,6 +102,7 @@ fn recovers(program: &Checked, image: &Image, hart: &Machine, readings: &Feed)
     plays_keep_bounds();
     plays_become_legal();
     resolved_functions_are_sized(program.resolved());
+    // That the hart is valid and the readings' count has a bound are clauses of these two.
     hart.pc();
     readings.used();
 }
@@ -140,6 +141,7 @@ impl Run {
     {
         let mut hart = self.hart;
         let mut readings = self.readings;
+        // That the play ends is this law, and that the hart is valid a clause of the call below it.
         plays_end();
         hart.pc();
         write_all_of(sink, self.report.list())?;

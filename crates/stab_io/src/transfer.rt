@@ -81,7 +81,7 @@ pub fn read_all<S: Source>(alloc: Global, src: &mut S, limit: usize) -> Result<B
 /// Appends the whole of `piece` to what `sink` holds. Takes no memory.
 ///
 /// `Failed` comes only where the count of faults of `sink` rose. Then a front of the piece was
-/// appended, which may be empty.
+/// appended, which may be empty and is not the whole.
 pub fn write_all_of<K: Sink>(sink: &mut K, piece: &[u8]) -> Result<(), Failed>
     ensures whole { OnOk result (Appends (K.held sink.old) (K.held sink.new) piece.now) }
     ensures part { OnErr result (AppendsPart (K.held sink.old) (K.held sink.new) piece.now) }

@@ -6,13 +6,13 @@ use Rattle.state_layout.specs.declared.layout.Layout.{Layout}
 use Rattle.bound_count.specs.declared.shape.Shape.{Shape}
 use Rattle.fault_script.specs.Faults.{AreFaultsFrom, IsFault, last_time}
 use Rattle.fault_script.specs.declared.event.Event.{Event}
-use Rattle.fault_script.specs.declared.event.Event.TheVariants.{Tick, Reg, Pc, Ram, SetRam}
+use Rattle.fault_script.specs.declared.event.Event.TheVariants.{Tick, Reg}
 use Rattle.fault_script.specs.declared.event.Timed.{Timed}
-use Rattle.fault_script.proofs.Struck.{valid-struck}
+use Rattle.fault_script.proofs.Struck.{happened-fault, valid-struck}
 use Rattle.rv_machine.specs.Hart.{IsValid}
 use Rattle.round_spec.specs.Round.{Compiled}
 use Rattle.round_spec.specs.Stabilizes.{Stabilizes}
-use Rattle.trace_decode.specs.Play.{Faulted, Onward, Over, Play, Standing, Struck, faulted, happened, marks_by, reached, ticked}
+use Rattle.trace_decode.specs.Play.{Faulted, Onward, Over, Play, Standing, Struck, faulted, marks_by, reached, ticked}
 use Rattle.trace_decode.specs.Stretches.{onward}
 use Rattle.trace_decode.proofs.Bounds.{heads-from}
 use Rattle.trace_decode.proofs.Standings.{onward-time, valid-onward}
@@ -34,20 +34,11 @@ plays-on rom rounds (suc n) s h =
     record { events = Tick ∷ rest.events; play = Onward (λ due. due) (λ over. let o : rounds < s.heads = over in omega arith) rest.play; soon = omega arith })
     (cases_lt rounds s.heads)
 
--- a fault is no tick
-pub happened-fault : (rom : List ℕ) (size : ℕ) (fault : Event) (s : Standing) → IsFault size fault → happened rom fault s ≡ faulted fault s
-happened-fault rom size Tick s is = absurd is
-happened-fault rom size (Reg r mask) s is = refl
-happened-fault rom size (Pc mask) s is = refl
-happened-fault rom size (Ram offset mask) s is = refl
-happened-fault rom size (SetRam offset word) s is = refl
-
+-- the line of a fault
 pub marks-fault : (size : ℕ) (fault : Event) (s : Standing) → IsFault size fault → marks_by fault s ≡ record { cause = Faulted fault; at = s } ∷ []
 marks-fault size Tick s is = absurd is
 marks-fault size (Reg r mask) s is = refl
-marks-fault size (Pc mask) s is = refl
-marks-fault size (Ram offset mask) s is = refl
-marks-fault size (SetRam offset word) s is = refl
+marks-fault size _ s is = refl
 
 module _ (rom_size size : ℕ) (multiple : size % 4 ≡ 0) (shape : Shape) (layout : Layout) (program : Resolved) (built : Compiled) (st : Stabilizes rom_size size shape layout program built) (rounds : ℕ) where
   abbrev rom : List ℕ

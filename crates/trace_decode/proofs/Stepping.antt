@@ -12,13 +12,15 @@ use Rattle.fault_script.specs.Faults.{IsFault}
 use Rattle.fault_script.specs.declared.event.Event.{Event}
 use Rattle.fault_script.specs.declared.event.Event.TheVariants.{Tick}
 use Rattle.fault_script.specs.declared.event.Timed.{Timed}
+use Rattle.fault_script.proofs.Struck.{happened-fault}
 use Rattle.round_spec.specs.Round.{Compiled}
+use Rattle.stab_io.specs.Pieces.{AppendsPart, IsProperFront}
 use Rattle.text_core.specs.WrittenLines.{ended, lines_text}
 use Rattle.trace_decode.specs.Going.{CutsUpTo, GoesUpTo, IsCut, IsDone, IsGoing, Job}
 use Rattle.trace_decode.specs.Play.{AtEnd, Faulted, IsDue, IsOver, Mark, Onward, Over, Play, Standing, Struck, faulted, happened, head_marks, marks, marks_by, marks_of, reached, ticked}
 use Rattle.trace_decode.specs.TraceText.{line_of, text_of, trace_text}
 use Rattle.trace_decode.specs.Tracing.{IsPartly}
-use Rattle.trace_decode.proofs.Plays.{Plays, happened-fault, marks-fault}
+use Rattle.trace_decode.proofs.Plays.{Plays, marks-fault}
 use Rattle.trace_decode.proofs.Standings.{counted-most, marks-away, marks-head}
 
 -- ---- lists of events
@@ -306,6 +308,12 @@ head-at s cut e =
     some : List Mark → Bool
     some [] = false
     some (x ∷ xs) = true
+
+-- the line was not written whole
+pub part-of : {A E : Type 0} (r : Result A E) (program : Resolved) (built : Compiled) (mark : Mark) (text : List ℕ) (now new : Option (List ℕ)) → text ≡ ended (line_of program built mark)
+    → OnErr r (AppendsPart now new text) → OnErr r (IsPartly program built (mark ∷ []) now new)
+part-of (Ok x) program built mark text now new is part = tt
+part-of (Err e) program built mark text now new is part = record { cut = mark; only = refl; part = part.0; begins = subst (λ l. IsProperFront l part.0) is part.1; text = part.2 }
 
 pub on_err : {A E P : Type 0} (r : Result A E) → P → OnErr r P
 on_err (Ok x) h = tt

@@ -3,12 +3,13 @@ use Rattle.std.specs.Prelude.{◌≡◌, ℕ, ◌+◌, ◌<◌, ◌≤◌, List,
 use Rattle.std.specs.declared.option.Option.{Option}
 use Rattle.std.specs.Io.KnownBytes.{Appends}
 use Rattle.asm_names.specs.declared.program.Resolved.{Resolved}
+use Rattle.fault_script.specs.Faults.{last_time}
 use Rattle.fault_script.specs.declared.event.Event.{Event}
 use Rattle.fault_script.specs.declared.event.Timed.{Timed}
 use Rattle.round_spec.specs.Round.{Compiled}
 use Rattle.rv_machine.specs.Hart.{HartState}
 use Rattle.rv_machine.specs.Run.{FeedState}
-use Rattle.trace_decode.specs.Play.{Play, Standing, head_marks, marks_of, reached}
+use Rattle.trace_decode.specs.Play.{Play, Standing, head_marks, marks_of, reached, started}
 use Rattle.trace_decode.specs.TraceText.{text_of}
 use Rattle.trace_decode.specs.Tracing.{IsCutOff, IsTraced}
 
@@ -19,6 +20,10 @@ pub record Job : Type 0 where
   pub start : Standing
   pub held : Option (List ℕ)
   pub latest : ℕ
+
+-- the trace of a script from this hart and these readings on, whose rounds come within so many ticks behind the last fault
+abbrev pub job_from : List Timed → ℕ → HartState → FeedState → Option (List ℕ) → ℕ → Job
+job_from script rounds m feed held limit = record { script = script; rounds = rounds; start = started m feed; held = held; latest = last_time 0 script + limit }
 
 -- With these faults left the play stands here. What was due so far is out.
 pub record IsGoing (program : Resolved) (built : Compiled) (job : Job) (faults : List Timed) (s : Standing) (now : Option (List ℕ)) : Type 0 where

@@ -3,6 +3,7 @@ use Rattle.std.specs.Prelude.{◌≡◌, ℕ, ◌≤◌, List}
 use Rattle.std.specs.List.{AllByRecursion}
 use Rattle.asm_names.specs.declared.program.Resolved.{Resolved}
 use Rattle.fault_script.specs.Faults.{AreFaults}
+use Rattle.fault_script.specs.Runs.{run_events}
 use Rattle.fault_script.specs.declared.event.Event.{Event}
 use Rattle.fault_script.specs.declared.event.Timed.{Timed}
 use Rattle.round_spec.specs.Round.{Compiled}
@@ -41,3 +42,9 @@ abbrev pub PlaysAreUnique : Type 0
 PlaysAreUnique =
     (rom : List ℕ) (rounds : ℕ) (script : List Timed) (start : Standing) (events others : List Event) → Play rom rounds script start events → Play rom rounds script start others
     → events ≡ others
+
+-- the play of a script is what happens under it in as many ticks as the play takes
+abbrev pub PlaysAreRuns : Type 0
+PlaysAreRuns =
+    (rom : List ℕ) (rounds size : ℕ) (script : List Timed) (m : HartState) (feed : FeedState) (events : List Event) → AreFaults size script → Play rom rounds script (started m feed) events
+    → events ≡ run_events (reached rom events (started m feed)).time 0 script

@@ -240,16 +240,8 @@ pub(crate) fn play<const ROM: u32, const RAM: u32, K: Sink>(
     'striking: while let Some((fault, rest)) = left.split_first() {
         let time = u64::from(fault.time);
         up_to(desk, checked, built, hart, feed, &mut progress, time, sink)?;
-        strike(
-            desk,
-            checked,
-            built,
-            hart,
-            feed,
-            &mut progress,
-            &fault.event,
-            sink,
-        )?;
+        let event = &fault.event;
+        strike(desk, checked, built, hart, feed, &mut progress, event, sink)?;
         left = rest;
     }
     to_end(

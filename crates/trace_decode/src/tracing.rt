@@ -144,8 +144,8 @@ fn desk_of(alloc: Global, checked: &Checked, space: &Space) -> Result<Desk, Allo
 /// # Errors
 ///
 /// `NoMemory` where there is no memory for these; then nothing was written, and no tick was made. `WriteFault` where a write
-/// failed. All lines before the one that is due then are out, and of it a part; hart and feed are those that the play has
-/// there, which for the line of a fault is right after the fault.
+/// failed, and a line did not go out whole. All lines before it are out, and of it a front that is not all of it; hart and
+/// feed are those that the play has where this line is due, which for the line of a fault is right after the fault.
 pub fn run_trace<const ROM: u32, const RAM: u32, K: Sink>(
     alloc: Global,
     checked: &Checked,

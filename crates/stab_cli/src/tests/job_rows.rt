@@ -7,7 +7,7 @@ use std::test::Fail;
 /// For `exec`: headers, and lines before the first one.
 const EXEC_SECTIONS: &str = "\
 401 1: 13~ | %rom\r | %~ | %Rom~ | % rom~ | %rom ~ | %rom\t~13~ | %source~13~ | \t%rom~13~ |  #~%rom~ | %roms~%rom~
-401 2: ~ | # a job~ |  \t | %set~ | # a~%rom  | %rom~%rom~ | %rom~%set~ | %rom~%source~ | %rom~%~ | %rom~% run~ | %set~%set~%rom~ | %set~%source~%rom~ | %run~%rom~13~
+401 2: ~ | # a job~ |  \t | %set~ | %rom~%rom~%run~ticks x~ticks 0~ | # a~%rom  | %rom~%rom~ | %rom~%set~ | %rom~%source~ | %rom~%~ | %rom~% run~ | %set~%set~%rom~ | %set~%source~%rom~ | %run~%rom~13~
 401 3: %run~ticks 1~ | %set~%run~ | %run~# ticks 1 | # a\r~\r~13~ | %rom~13~%runs~ticks 1~ | %rom~%run~%run~ | %rom~%run~%set~
 401 4: # a~~\t ~%sauce~ | %set~ ~%run | %set~%rom~%run~%rom~ | %rom~zz~~%rom~zz~
 ok: %rom~ | %rom | \r~%rom\r~\r~%run\r~\r~ | # a~ ~%set~# b~ ~%rom~# c~ ~%run~# d~ ~";
@@ -22,7 +22,9 @@ const EXEC_FORMS: &str = "\
 
 /// For `exec`: numbers out of range, which of two faults decides, and what is judged behind them.
 const EXEC_RANGES: &str = "\
-403 2: %set~revision 0~%rom~ | %set~revision 3~%rom~ | %set~revision 999999999999999999~%rom~ | %set~revision 9~%sauce~
+402 2: %set~x~ | %set~revision x~%sauce~
+402 3: %rom~%run~ticks x~%rom~ticks 0~
+403 2: %set~revision 0~ | %set~revision 0~%rom~ | %set~revision 3~%rom~ | %set~revision 999999999999999999~%rom~ | %set~revision 9~%sauce~
 403 3: %rom~%run~ticks 0~ | %rom~%run~ticks 10000001~ | %rom~%run~ticks 999999999999999999~ | %rom~%run~reg 0 1~ | %rom~%run~reg 32 1~ | %rom~%run~reg 4294967297 1~ | %rom~%run~ram 10000002 1~ | %rom~%run~ram 0ffffffc 1~ | %rom~%run~ram 10040000 1~ | %rom~%run~ram 20000000 1~ | %rom~%run~ram 0 0~
 403 5: \r~%rom\r~13\r~%run\r~ticks 0\r~ | %set~revision 2~%rom~%run~ram 10100000 1~
 402 3: %rom~%run~reg 32 x~ | %rom~%run~ram 3 g~ | %rom~%run~ticks x~ticks 0~
@@ -44,7 +46,8 @@ const MODEL: &str = "\
 402 5: rounds 1~rounds 1~ | rounds 1~rounds 0~ | # a~rounds -1~ | value~at~
 403 4: rounds 0~ | rounds 1000001~ | rounds 0~%run~
 401 4: %run~ | %set~ | %source~ | %rom~
-901: value x 1~ | in 1~value~ | rounds 2~ value x 1 2~
+411 4: value x 1~
+411 5: in 1~value~ | rounds 2~ value x 1 2~
 ok: rounds 1000~ | ~ in ffffffff~rounds 2~in 0~# c~ \t~";
 
 /// For `run`, behind a source of one line.
@@ -53,14 +56,25 @@ const RUN: &str = "\
 402 6: at 1 pc 1~rounds 1~rounds~
 402 5: rounds 1~rounds 1~ | fill 0~seed 0~
 403 4: rounds 0~ | rounds 1000001~ | ram 10000002 1~ | reg 0 1~
-411 4: at~ | at 1~ | at x pc 1~ | at 01 pc 1~ | at 1 pc~ | at 1 pc g~ | at 1 pc 1 1~ | at 1 reg 1~ | at 1 sp 1~ | at 1 ram 10000000~ | at 1 set g 1~
-412 4: at 10000001 pc 1~ | at 1 reg 0 1~ | at 1 reg 32 1~ | at 1 ram 10000002 1~ | at 1 set 20000000 1~ | at 1 ram 10040000 1~ | at 1 reg 0 1~at~
-413 5: at 2 pc 1~at 1 pc 1~ | at 2 pc 1~at 1 pc 1~at~
+411 4: at~ | at 1~ | at x pc 1~ | at 01 pc 1~ | at 1 pc~ | at 1 pc g~ | at 1 pc 1 1~ | at 1 reg 1~ | at 1 sp 1~ | at 1 ram 10000000~ | at 1 set g 1~ | at 1 tick~ | at 1 reg x 1~ | at 1 reg 01 1~ | at 1 reg 1 g~ | at 1 ram g 1~ | at 1 ram 10000000 g~ | at 1 ram 10000000 1 1~ | at 1 set 10000000~ | at 1 set 10000000 g~
+411 4: at 10000001 pc g~ | at 10000001 reg 99 g~ | at 1 reg 99 x~ | at 10000001 ram 3 g~ | at 10000001 set 3~
+412 4: at 10000001 pc 1~ | at 1 reg 0 1~ | at 1 reg 32 1~ | at 1 ram 10000002 1~ | at 1 set 20000000 1~ | at 1 ram 10040000 1~ | at 1 reg 0 1~at~ | at 10000001 reg 1 1~ | at 10000001 ram 10000000 1~ | at 10000001 set 10000000 1~ | at 1 set 10000001 1~ | at 1 ram 0 1~ | at 1 reg 999999999999999999 1~
+413 5: at 2 pc 1~at 1 reg 1 1~ | at 2 reg 1 1~at 1 ram 10000000 1~ | at 2 set 10000000 1~at 1 set 10000000 1~ | at 2 pc 1~at 1 pc 1~ | at 2 pc 1~at 1 pc 1~at~
 411 5: at 2 pc 1~at 1 pc~
 412 5: at 2 pc 1~at 1 reg 0 1~
 306 64000137: rounds 1000000~at 7 pc 1~
 306 10000066: rounds 154~at 9990080 pc 1~
 ok: ~ | rounds 2~at 0 pc 1~at 0 ram 10000000 ffffffff~at 9 reg 31 1~# c~\tat 9 set 10000000 7~";
+
+/// For `run`: what is judged before what.
+const RUN_ORDER: &str = "\
+207 2 16: %source~machine m domain D = 0 to 9 controlled x : D rule x := 10~%run~at~
+901: %set~shape looped~%source~machine m rule skip~%run~at~
+403 7: %source~machine counter~domain D = 0 to 9~controlled x : D~rule x := cond((x = 9), 0, min((x + 1), 9))~%run~rounds 0~at 1 reg 0 1~
+412 8: %source~machine counter~domain D = 0 to 9~controlled x : D~rule x := cond((x = 9), 0, min((x + 1), 9))~%run~rounds 1000000~at 1 reg 0 1~
+413 9: %source~machine counter~domain D = 0 to 9~controlled x : D~rule x := cond((x = 9), 0, min((x + 1), 9))~%run~rounds 1000000~at 9 pc 1~at 8 pc 1~
+306 234000470: %source~machine counter~domain D = 0 to 9~controlled x : D~rule x := cond((x = 9), 0, min((x + 1), 9))~%run~rounds 1000000~
+306 234000479: %source~machine counter~domain D = 0 to 9~controlled x : D~rule x := cond((x = 9), 0, min((x + 1), 9))~%run~rounds 1000000~at 9 pc 1~";
 
 /// For `compile`, behind the header `%set`.
 const COMPILE: &str = "\
@@ -116,6 +130,7 @@ fn jobs_at_fault(rt: HostRuntime) -> Result<(), Fail> {
         ("exec", "", EXEC_RANGES),
         ("model", "%source~machine m rule skip~%run~", MODEL),
         ("run", "%source~machine m rule skip~%run~", RUN),
+        ("run", "", RUN_ORDER),
         ("compile", "%set~", COMPILE),
         ("asm", "", ASM),
         ("list", "", LIST),

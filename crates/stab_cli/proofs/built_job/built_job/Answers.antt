@@ -12,5 +12,4 @@ returns-in-Ok-clause-judged c =
 
 pub returns-in-Ok-2-clause-judged : goal.returns-in-Ok-2-clause-judged
 returns-in-Ok-2-clause-judged c =
-    rw c.not_built.ensures
-    (unbuilt c.args.mode c.args.bytes.now (job_state c.in-Ok.job) c.in-Ok.ensures.answer (sym c.is_built.ensures ∙ c.if-is_built.false))
+    unbuilt c.args.mode c.args.bytes.now (job_state c.in-Ok.job) c.in-Ok.ensures.answer (sym c.is_built.ensures ∙ c.if-is_built.false)

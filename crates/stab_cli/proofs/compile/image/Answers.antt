@@ -9,4 +9,4 @@ returns-in-Ok-clause-judged c =
 pub returns-in-Err-Needs-clause-judged : goal.returns-in-Err-Needs-clause-judged
 returns-in-Err-Needs-clause-judged c =
     let numbers = c.args.program.now in
-    rw (c.of_count.ensures, c.code.ensures, c.number.ensures) (needs_refuse numbers (own_numbers numbers) _ (needs-are numbers) c.in-Err-Needs.field-0 c.in-Err-Needs.end c.in-Err-Needs.field-0-is c.in-Err-Needs.ensures.needs)
+    needs_refuse numbers (own_numbers numbers) _ (needs-are numbers) c.in-Err-Needs.field-0 c.in-Err-Needs.need c.in-Err-Needs.field-0-is c.in-Err-Needs.ensures.needs

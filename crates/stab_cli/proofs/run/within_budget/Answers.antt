@@ -17,5 +17,5 @@ pub returns-in-Err-clause-judged : goal.returns-in-Err-clause-judged
 returns-in-Err-clause-judged c =
     let numbers = c.args.program.now in
     let has : c.needs.result ≡ numbers_of Unrolled Words numbers = c.needs.ensures ∙ c.requires.stabilizes.needs in
-    rw (c.of_count.ensures, c.in-Err.ensures.number, has)
+    rw (c.in-Err.ensures.number, has)
     (takes_too_long numbers (own_numbers numbers) c.args.faults.now c.args.rounds (rw has at c.in-Err.ensures.many))

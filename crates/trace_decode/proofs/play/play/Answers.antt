@@ -1,8 +1,8 @@
 use Rattle.std.proofs.Common.{◌≡◌, ◌≤◌, ◌+◌, [], ◌∷◌, ◌∙◌, refl, sym, ap, subst, arith}
 use Rattle.fault_script.specs.Faults.{AreFaultsFrom, IsFault, last_time}
-use Rattle.trace_decode.specs.Going.{IsCut, IsGoing, Job}
+use Rattle.trace_decode.specs.Going.{IsCut, IsGoing, job_from}
 use Rattle.std.specs.Io.KnownBytes.{Appends}
-use Rattle.trace_decode.specs.Play.{Faulted, Standing, started}
+use Rattle.trace_decode.specs.Play.{Faulted, Standing}
 use Rattle.trace_decode.specs.TraceText.{text_of}
 use Rattle.trace_decode.specs.Ready.{standing}
 use Rattle.trace_decode.specs.Tracing.{IsPartly}
@@ -14,14 +14,14 @@ use Rattle.trace_decode.proofs.play.play.Goals as goal
 pub returns-in_err-progress-clause-cut : goal.returns-in_err-progress-clause-cut
 returns-in_err-progress-clause-cut g c =
     let held = g.K.Sink.held in
-    let job : Job = record { script = c.args.script.now; rounds = c.args.rounds; start = started c.args.hart.now c.args.feed.now; held = held c.args.sink.now; latest = last_time 0 c.args.script.now + c.args.limit } in
+    let job = job_from c.args.script.now c.args.rounds c.args.hart.now c.args.feed.now (held c.args.sink.now) c.args.limit in
     let plays = plays-stable g.row.ROM g.row.RAM c.requires.size c.args.checked.now c.args.built.now c.requires.stable c.args.script.now c.args.rounds c.args.limit c.requires.limit c.args.hart.now c.args.feed.now c.pc.ensures.valid c.requires.script in
     on_err c.from_residual.result (cut-first c.args.checked.now c.args.built.now job (held c.start.new.sink) plays c.in_err-progress.ensures.part)
 
 pub striking-init : goal.striking-init
 striking-init g c =
     let held = g.K.Sink.held in
-    let job : Job = record { script = c.args.script.now; rounds = c.args.rounds; start = started c.args.hart.now c.args.feed.now; held = held c.args.sink.now; latest = last_time 0 c.args.script.now + c.args.limit } in
+    let job = job_from c.args.script.now c.args.rounds c.args.hart.now c.args.feed.now (held c.args.sink.now) c.args.limit in
     let plays = plays-stable g.row.ROM g.row.RAM c.requires.size c.args.checked.now c.args.built.now c.requires.stable c.args.script.now c.args.rounds c.args.limit c.requires.limit c.args.hart.now c.args.feed.now c.pc.ensures.valid c.requires.script in
     let e = c.in_ok-progress.ensures in
     let at = e.standing in
@@ -42,7 +42,7 @@ striking-init g c =
 pub returns-in_err-up_to-clause-cut : goal.returns-in_err-up_to-clause-cut
 returns-in_err-up_to-clause-cut g c =
     let held = g.K.Sink.held in
-    let job : Job = record { script = c.args.script.now; rounds = c.args.rounds; start = started c.args.hart.now c.args.feed.now; held = held c.args.sink.now; latest = last_time 0 c.args.script.now + c.args.limit } in
+    let job = job_from c.args.script.now c.args.rounds c.args.hart.now c.args.feed.now (held c.args.sink.now) c.args.limit in
     let i = c.striking.invariant in
     let s = standing c.striking.hart c.striking.feed c.striking.progress in
     let fault = c.in-Some.fault.now in
@@ -54,7 +54,7 @@ returns-in_err-up_to-clause-cut g c =
 pub returns-in_err-strike-clause-cut : goal.returns-in_err-strike-clause-cut
 returns-in_err-strike-clause-cut g c =
     let held = g.K.Sink.held in
-    let job : Job = record { script = c.args.script.now; rounds = c.args.rounds; start = started c.args.hart.now c.args.feed.now; held = held c.args.sink.now; latest = last_time 0 c.args.script.now + c.args.limit } in
+    let job = job_from c.args.script.now c.args.rounds c.args.hart.now c.args.feed.now (held c.args.sink.now) c.args.limit in
     let i = c.striking.invariant in
     let s = standing c.striking.hart c.striking.feed c.striking.progress in
     let fault = c.in-Some.fault.now in
@@ -76,7 +76,7 @@ returns-in_err-strike-clause-cut g c =
 pub striking-preserved : goal.striking-preserved
 striking-preserved g c =
     let held = g.K.Sink.held in
-    let job : Job = record { script = c.args.script.now; rounds = c.args.rounds; start = started c.args.hart.now c.args.feed.now; held = held c.args.sink.now; latest = last_time 0 c.args.script.now + c.args.limit } in
+    let job = job_from c.args.script.now c.args.rounds c.args.hart.now c.args.feed.now (held c.args.sink.now) c.args.limit in
     let i = c.striking.invariant in
     let s = standing c.striking.hart c.striking.feed c.striking.progress in
     let fault = c.in-Some.fault.now in
@@ -107,7 +107,7 @@ striking-preserved g c =
 pub returns-in_err-to_end-clause-cut : goal.returns-in_err-to_end-clause-cut
 returns-in_err-to_end-clause-cut g c =
     let held = g.K.Sink.held in
-    let job : Job = record { script = c.args.script.now; rounds = c.args.rounds; start = started c.args.hart.now c.args.feed.now; held = held c.args.sink.now; latest = last_time 0 c.args.script.now + c.args.limit } in
+    let job = job_from c.args.script.now c.args.rounds c.args.hart.now c.args.feed.now (held c.args.sink.now) c.args.limit in
     let i = c.striking.invariant in
     let s = standing c.striking.hart c.striking.feed c.striking.progress in
     let empty = nil_of c.striking.left.now c.in_default.ensures.cases in
@@ -118,7 +118,7 @@ returns-in_err-to_end-clause-cut g c =
 pub returns-in_err-show_end-clause-cut : goal.returns-in_err-show_end-clause-cut
 returns-in_err-show_end-clause-cut g c =
     let held = g.K.Sink.held in
-    let job : Job = record { script = c.args.script.now; rounds = c.args.rounds; start = started c.args.hart.now c.args.feed.now; held = held c.args.sink.now; latest = last_time 0 c.args.script.now + c.args.limit } in
+    let job = job_from c.args.script.now c.args.rounds c.args.hart.now c.args.feed.now (held c.args.sink.now) c.args.limit in
     let i = c.striking.invariant in
     let s = standing c.striking.hart c.striking.feed c.striking.progress in
     let empty = nil_of c.striking.left.now c.in_default.ensures.cases in
@@ -132,7 +132,7 @@ returns-in_err-show_end-clause-cut g c =
 pub returns-clause-whole : goal.returns-clause-whole
 returns-clause-whole g c =
     let held = g.K.Sink.held in
-    let job : Job = record { script = c.args.script.now; rounds = c.args.rounds; start = started c.args.hart.now c.args.feed.now; held = held c.args.sink.now; latest = last_time 0 c.args.script.now + c.args.limit } in
+    let job = job_from c.args.script.now c.args.rounds c.args.hart.now c.args.feed.now (held c.args.sink.now) c.args.limit in
     let i = c.striking.invariant in
     let s = standing c.striking.hart c.striking.feed c.striking.progress in
     let empty = nil_of c.striking.left.now c.in_default.ensures.cases in

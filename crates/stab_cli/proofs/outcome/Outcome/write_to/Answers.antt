@@ -1,4 +1,4 @@
-use Rattle.std.proofs.Common.{◌∙◌, [], ap, refl, subst, sym}
+use Rattle.std.proofs.Common.{◌∙◌, [], ap, refl, subst, sym, arith}
 use Rattle.std.proofs.KnownBytes.{Appends-nil}
 use Rattle.std.proofs.lemmas.Result.{err_from_is_err_and}
 use Rattle.stab_cli.specs.Outcome.{IsReply}
@@ -11,7 +11,7 @@ pub returns-in_err-line-in-Refused-clause-part : goal.returns-in_err-line-in-Ref
 returns-in_err-line-in-Refused-clause-part g c =
     let line = refusal_line c.in-Refused.refusal in
     let given = err_from_is_err_and c.from_residual-in_err-line-in-Refused.result c.from_residual-in_err-line-in-Refused.ensures.1 in
-    rw given.1 (line, subst (λ outcome. IsReply outcome line) (sym c.in-Refused.is) refl, ([], refl, Appends-nil _))
+    rw given.1 (line, subst (λ outcome. IsReply outcome line) (sym c.in-Refused.is) refl, ([], (refl, omega arith), Appends-nil _))
 
 pub returns-in-Accepted-Play-clause-part : goal.returns-in-Accepted-Play-clause-part
 returns-in-Accepted-Play-clause-part g c =

@@ -1,0 +1,1 @@
+use Rattle.model_run.proofs.start.start_of.Goals as goal
